@@ -1,0 +1,2 @@
+-- Lemmas on the listing.
+pub mod Lines
