@@ -167,3 +167,49 @@ fn fixed_blocks(heap: Global) -> Result<Cover, Refusal> {
 pub fn blocks(heap: Global) -> Result<Cover, AnyError> {
     told(fixed_blocks(heap))
 }
+
+// One cube for each row of four inputs that is listed.
+fn by_rows(heap: Global, on: &[u16], free: &[u16]) -> Result<Cover, Refusal> {
+    let mut cubes = Vec::new(heap);
+    for row in on {
+        cubes.push(Cube {
+            output: 0,
+            kind: 1,
+            fixed: 15,
+            value: *row,
+        })?;
+    }
+    for row in free {
+        cubes.push(Cube {
+            output: 0,
+            kind: 2,
+            fixed: 15,
+            value: *row,
+        })?;
+    }
+    Cover::new(4, 1, cubes)
+}
+
+// At each weight as many rows on as off; weights 0 and 4 have one row each, and it is a don't-care.
+pub fn ties(heap: Global) -> Result<Cover, AnyError> {
+    told(by_rows(heap, &[1, 2, 3, 5, 6, 7, 11], &[0, 15]))
+}
+
+// One cube that holds every row, of this kind.
+fn constant(heap: Global, inputs: u32, kind: u32) -> Result<Cover, Refusal> {
+    let all = Cube {
+        output: 0,
+        kind,
+        fixed: 0,
+        value: 0,
+    };
+    Cover::new(inputs, 1, Vec::from_slice(heap, &[all])?)
+}
+
+pub fn all_of(heap: Global, inputs: u32, kind: u32) -> Result<Cover, AnyError> {
+    told(constant(heap, inputs, kind))
+}
+
+pub fn none_of(heap: Global, inputs: u32) -> Result<Cover, AnyError> {
+    told(Cover::new(inputs, 1, Vec::new(heap)))
+}

@@ -1,0 +1,5 @@
+-- Symmetric functions, for whoever hands one out.
+pub mod Vectors
+pub mod Nearest
+pub mod Closest
+pub mod Figures
