@@ -1,5 +1,6 @@
-// Known figures and counts: designs of every make, their tallies printed and held to a count over all rows.
+// Known figures and counts: designs of every make, their tallies held to a count over all rows, and drawings read back.
 mod compare;
+mod drawn;
 mod makes;
 
 use compare::Outcome;
