@@ -41,5 +41,6 @@ fn main(rt: LibcRuntime) -> Result<(), AnyError> {
         rt,
         "{compared} tallies compared with a count over all rows, {differ} differ"
     )?;
+    drawn::draw_all(&rt)?;
     Ok(())
 }
