@@ -5,9 +5,9 @@ use native.Mathlib.Omega.{arith}
 use lib.ListN.{length, getD, drop}
 use Rattle.std.specs.Of.String.{string-bytes}
 use Rattle.burn.specs.Files.{contents, no-entry}
-use Rattle.listing.specs.Listing.{entry-line, entry-lines}
-use Rattle.listing.proofs.Lines.{lines-more, lines-all}
-use Rattle.listing.proofs.report.listing_of.Needs as need
+use Rattle.report.specs.Listing.{entry-line, entry-lines}
+use Rattle.report.proofs.Lines.{lines-more, lines-all}
+use Rattle.report.proofs.text.listing_of.Needs as need
 
 pub loop-output-again : need.loop-output-again
 loop-output-again c =

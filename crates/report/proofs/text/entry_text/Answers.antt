@@ -2,8 +2,8 @@ use mathlib.Core.Path.{ap, _∙_}
 use Rattle.std.proofs.shelf.Results.{made-weaker}
 use Rattle.std.specs.Of.String.{string-bytes}
 use Rattle.burn.specs.Files.{flag}
-use Rattle.listing.proofs.Lines.{line-of}
-use Rattle.listing.proofs.report.entry_text.Needs as need
+use Rattle.report.proofs.Lines.{line-of}
+use Rattle.report.proofs.text.entry_text.Needs as need
 
 pub returns : need.returns
 returns c =

@@ -4,8 +4,8 @@ use lib.ListN.{drop}
 use Rattle.std.specs.Of.String.{string-bytes}
 use Rattle.std.specs.Of.Vec.{vec-items}
 use Rattle.burn.specs.Files.{contents}
-use Rattle.listing.specs.Listing.{entry-lines, listed}
-use Rattle.listing.proofs.report.listing_of.Given as given
+use Rattle.report.specs.Listing.{entry-lines, listed}
+use Rattle.report.proofs.text.listing_of.Given as given
 
 -- the lines so far, and those that are left
 abbrev pub Inv-loop-output : given.InvT-loop-output

@@ -6,7 +6,7 @@ ghost use lib.ListN.{length};
 ghost use Rattle.std.specs.Of.String.{string-bytes};
 ghost use Rattle.std.specs.Vec.{made};
 ghost use Rattle.burn.specs.Files.{contents, flag, loaded};
-ghost use Rattle.listing.specs.Listing.{digit, digits, head-line, entry-line, entry-lines, listed, reported};
+ghost use Rattle.report.specs.Listing.{digit, digits, head-line, entry-line, entry-lines, listed, reported};
 use burn::Entry;
 use burn::Sheet;
 use refusal::Refusal;
@@ -73,7 +73,7 @@ fn head_text(heap: Global, sheet: &Sheet) -> Result<String, AllocError>
 }
 
 // The listing of a sheet.
-fn listing_of(heap: Global, sheet: &Sheet) -> Result<String, AllocError>
+pub fn listing_of(heap: Global, sheet: &Sheet) -> Result<String, AllocError>
     ensures { λ r. ⌜ made r (λ t. string-bytes t ≡ listed (contents (now (sheet .entry)))) ⌝ }
 {
     let inputs = sheet.inputs();

@@ -2,8 +2,8 @@ use Prim.Native.Nat.{_+_, _-_}
 use mathlib.Core.List.{_++_}
 use mathlib.Core.Path.{_≡_}
 use Rattle.std.specs.Of.String.{string-bytes}
-use Rattle.listing.specs.Listing.{digits}
-use Rattle.listing.proofs.report.values_text.Given as given
+use Rattle.report.specs.Listing.{digits}
+use Rattle.report.proofs.text.values_text.Given as given
 
 -- the digits so far, and those that are left
 abbrev pub Inv-loop-weight : given.InvT-loop-weight

@@ -2,9 +2,9 @@ use mathlib.Core.List.{[], _∷_, _++_}
 use mathlib.Core.Path.{ap, _∙_}
 use Prim.Native.Nat.{_+_, _-_}
 use Rattle.std.specs.Of.String.{string-bytes}
-use Rattle.listing.specs.Listing.{digits}
-use Rattle.listing.proofs.Lines.{digits-more, digits-all}
-use Rattle.listing.proofs.report.values_text.Needs as need
+use Rattle.report.specs.Listing.{digits}
+use Rattle.report.proofs.Lines.{digits-more, digits-all}
+use Rattle.report.proofs.text.values_text.Needs as need
 
 pub loop-weight-again : need.loop-weight-again
 loop-weight-again c =

@@ -8,7 +8,7 @@ use lib.ListN.{length, getD, drop}
 use Rattle.std.proofs.shelf.Lists.{append-nil, at-drop-more, at-drop-all}
 use Rattle.std.specs.Written.{decimal}
 use Rattle.burn.specs.declared.entry.Entry.{Entry}
-use Rattle.listing.specs.Listing.{digit, digits, entry-line, entry-lines}
+use Rattle.report.specs.Listing.{digit, digits, entry-line, entry-lines}
 
 -- one digit more, and none left
 pub digits-more : (text all : List ℕ) (vector weight end : ℕ) → weight < end → text ++ digits vector weight (end - weight) ≡ all → (text ++ digit vector weight ∷ []) ++ digits vector (weight + 1) (end - (weight + 1)) ≡ all

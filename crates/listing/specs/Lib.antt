@@ -1,2 +1,0 @@
--- What the listing program prints.
-pub mod Listing

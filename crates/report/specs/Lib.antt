@@ -1,0 +1,2 @@
+-- What is printed of a burn file.
+pub mod Listing
