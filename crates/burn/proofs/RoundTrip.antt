@@ -234,7 +234,7 @@ entries-pass inputs b (e ∷ es) k =
 agreed-by : (n limit spent : ℕ) (es : List Entry) → eqb spent (costs es) ≡ true → leb spent limit ≡ true → agreed n n limit spent es ≡ Ok tt
 agreed-by n limit spent es e l = cond-true (eqb n n) _ _ (eq-eqb n n refl) ∙ (cond-true (eqb spent (costs es)) _ _ e ∙ cond-true (leb spent limit) _ _ l)
 
-checked-kept : (c : Contents) → keeps (c .inputs) (c .limit) (c .spent) (c .entries) ≡ true → checked c ≡ Ok c
+pub checked-kept : (c : Contents) → keeps (c .inputs) (c .limit) (c .spent) (c .entries) ≡ true → checked c ≡ Ok c
 checked-kept c k =
     let n = length (c .entries) in
     let p = and-parts (within 1 16 (c .inputs)) _ k in

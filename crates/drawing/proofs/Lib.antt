@@ -10,3 +10,4 @@ pub mod Constant
 pub mod Steps
 pub mod Ends
 pub mod Diagrams
+pub mod Sizes
