@@ -2,6 +2,7 @@
 mod compare;
 mod drawn;
 mod makes;
+mod sending;
 
 use compare::Outcome;
 use compare::compare;
@@ -42,5 +43,8 @@ fn main(rt: LibcRuntime) -> Result<(), AnyError> {
         "{compared} tallies compared with a count over all rows, {differ} differ"
     )?;
     drawn::draw_all(&rt)?;
+    sending::open_all(&rt)?;
+    sending::fill_log(&rt)?;
+    sending::send_many(&rt)?;
     Ok(())
 }
