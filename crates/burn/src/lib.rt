@@ -1,4 +1,6 @@
 // The burn file: sheets that break none of its rules, written to bytes and loaded from them.
+#![tactic(auto)]
+
 mod block;
 mod build;
 mod entry;

@@ -1,4 +1,6 @@
 // Numbered commands: what they are, how each is answered, and what holds however they are sent.
+#![tactic(auto)]
+
 mod command;
 mod same;
 mod theorems;

@@ -1,4 +1,6 @@
 // Covers: designs given by cubes, no two of which meet.
+#![tactic(auto)]
+
 mod cover;
 mod cube;
 mod held;

@@ -1,5 +1,7 @@
 // What a design means, the interface that every make of design answers to, pairs of designs, and the
 // search for the first record that meets another.
+#![tactic(auto)]
+
 mod design;
 mod joined;
 mod mark;

@@ -12,8 +12,8 @@ pub trait Record {
 
 // The place of the first record that meets the wanted one.
 pub fn first_meeting<R: Record>(records: &[R], wanted: &R) -> Option<usize>
-    ensures answer { result ≡ first_place (λ x. meets x wanted.now) records.now }
-    ensures first { Says (λ x. meets x wanted.now) records.now result }
+    ensures answer { result ≡ first_place (λ x. R.meets x wanted.now) records.now }
+    ensures first { Says (λ x. R.meets x wanted.now) records.now result }
 {
     for (place, one) in records.iter().enumerate() {
         if one.meets(wanted) {

@@ -1,4 +1,6 @@
 // Decision diagrams: designs whose rows are read from a root, one input at each node.
+#![tactic(auto)]
+
 mod node;
 mod table;
 mod theorems;

@@ -1,4 +1,5 @@
 // Symmetric functions drawn as reduced ordered decision diagrams.
+#![tactic(auto)]
 mod buffer;
 mod drawn;
 mod fill;

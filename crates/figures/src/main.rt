@@ -1,4 +1,5 @@
 // Known figures and counts: designs of every make, their tallies held to a count over all rows, and drawings read back.
+#![tactic(auto)]
 mod compare;
 mod drawn;
 mod makes;

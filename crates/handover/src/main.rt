@@ -1,4 +1,5 @@
 // One handover from a camera's tables to a burn file, each action printed with its reply.
+#![tactic(auto)]
 mod camera;
 mod story;
 mod words;

@@ -1,4 +1,5 @@
 // Prints what a burn file on standard input holds, or why it is refused.
+#![tactic(auto)]
 mod input;
 
 use report::report_of;

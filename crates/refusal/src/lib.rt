@@ -1,4 +1,6 @@
 // Every refusal that a call of this repository can give, in one table.
+#![tactic(auto)]
+
 mod show;
 mod table;
 

@@ -1,4 +1,5 @@
 // The numbered service: accounts, a ledger, a log, and the calls on them.
+#![tactic(auto)]
 mod account;
 mod book;
 mod ledger;

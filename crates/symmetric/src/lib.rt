@@ -1,4 +1,6 @@
 // Symmetric functions: those that depend only on how many inputs are one.
+#![tactic(auto)]
+
 mod decide;
 mod found;
 mod side;

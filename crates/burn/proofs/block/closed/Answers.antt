@@ -5,5 +5,5 @@ use Rattle.burn.proofs.block.closed.Goals as goal
 
 pub returns : goal.returns
 returns c =
-    closes c.args.first c.copy-from-slice.new.self c.padded-block.result (search rules) c.padded-block.ensures
-    (c.copy-from-slice.ensures.after ∙ (c.to-le-bytes.ensures ∙ ap bytes4 c.weighted-sum-sum.ensures))
+    closes c.args.first c.copy_from_slice.new.self c.padded-block.result (search rules) c.padded-block.ensures
+    (c.copy_from_slice.ensures.after ∙ (c.to_le_bytes.ensures ∙ ap bytes4 c.weighted_sum-sum.ensures))

@@ -4,10 +4,10 @@ use Rattle.burn.proofs.block.weighted_sum.Goals as goal
 
 -- what this byte adds is small
 adds : (c : goal.After-from) → c.loop-byte.factor * c.from.result ≤ 129540
-adds c = one_adds c.loop-byte.factor c.from.result (omega arith) (omega (arith, c.type-inv.bytes c.loop-byte.byte-index))
+adds c = one_adds c.loop-byte.factor c.from.result (omega arith) (omega (arith, c.type_inv.bytes c.loop-byte.byte-index))
 
-pub overflow-add-sum : goal.overflow-add-sum
-overflow-add-sum c = let a = adds c in omega arith
+pub overflow_add-sum : goal.overflow_add-sum
+overflow_add-sum c = let a = adds c in omega arith
 
 pub loop-byte-preserved : goal.loop-byte-preserved
 loop-byte-preserved c =

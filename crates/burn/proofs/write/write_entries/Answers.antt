@@ -5,9 +5,9 @@ use Rattle.burn.proofs.write.write_entries.Goals as goal
 
 pub loop-index-preserved : goal.loop-index-preserved
 loop-index-preserved c =
-    let e = c.copy-from-slice.ensures.after ∙ c.block-of-block.ensures in (
-      whole_goes c.args.entries.now c.loop-index.index _ c.loop-index.buffer _ c.copy-from-slice.new.self c.loop-index-test.true (omega arith) e c.loop-index.invariant.0,
-      past_stays c.args.entries.now c.loop-index.index _ c.loop-index.buffer c.loop-index.buffer c.copy-from-slice.new.self c.loop-index-test.true (omega arith) e ∙ c.loop-index.invariant.1,
+    let e = c.copy_from_slice.ensures.after ∙ c.block_of-block.ensures in (
+      whole_goes c.args.entries.now c.loop-index.index _ c.loop-index.buffer _ c.copy_from_slice.new.self c.loop-index-test.true (omega arith) e c.loop-index.invariant.0,
+      past_stays c.args.entries.now c.loop-index.index _ c.loop-index.buffer c.loop-index.buffer c.copy_from_slice.new.self c.loop-index-test.true (omega arith) e ∙ c.loop-index.invariant.1,
     )
 
 pub returns : goal.returns

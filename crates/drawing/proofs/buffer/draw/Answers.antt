@@ -24,7 +24,7 @@ returns c =
     let room = c.filled-page.ensures.room in
     record {
       answer = draw_answered page v.inputs v.bits is (omega arith) c.args.buffer.now (omega arith);
-      after = c.copy-to.ensures ∙ drawn_after page v.inputs v.bits is (omega arith) c.args.buffer.now (omega arith);
+      after = c.copy_to.ensures ∙ drawn_after page v.inputs v.bits is (omega arith) c.args.buffer.now (omega arith);
       reduced = reduced v.inputs v.bits;
       few = let n = count_is page v.inputs v.bits is (omega arith) in omega arith;
     }

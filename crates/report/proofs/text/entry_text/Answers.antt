@@ -9,5 +9,5 @@ returns c =
     let e = c.args.entry in
     IfOk-weaker c.format.result _ _
     (λ t q. q
-    ∙ (ap (λ f. line_of c.args.output e.price f (string_bytes c.in-ok-values.values) e.wrong) c.flag-of-taken.ensures
-    ∙ ap (λ v. line_of c.args.output e.price (flag e.taken) v e.wrong) c.in-ok-values.ensures)) c.format.ensures.ok
+    ∙ (ap (λ f. line_of c.args.output e.price f (string_bytes c.in_ok-values.values) e.wrong) c.flag_of-taken.ensures
+    ∙ ap (λ v. line_of c.args.output e.price (flag e.taken) v e.wrong) c.in_ok-values.ensures)) c.format.ensures.ok

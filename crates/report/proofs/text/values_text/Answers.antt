@@ -6,8 +6,8 @@ use Rattle.report.proofs.text.values_text.Goals as goal
 pub loop-weight-preserved : goal.loop-weight-preserved
 loop-weight-preserved c =
     let before = string_bytes c.loop-weight.text in
-    let one = c.push.ensures.ascii c.digit-at.ensures.bound ∙ ap (λ d. d ∷ []) c.digit-at.ensures.value in
-    let after = c.in-ok-push.ensures.bytes ∙ ap (λ x. before ++ x) one in
+    let one = c.push.ensures.ascii c.digit_at.ensures.bound ∙ ap (λ d. d ∷ []) c.digit_at.ensures.value in
+    let after = c.in_ok-push.ensures.bytes ∙ ap (λ x. before ++ x) one in
     ap (λ x. x ++ digits c.args.vector (c.loop-weight.weight + 1) (c.args.inputs + 1 - (c.loop-weight.weight + 1))) after
     ∙ digits_more before _ c.args.vector c.loop-weight.weight (c.args.inputs + 1) c.loop-weight-test.true c.loop-weight.invariant
 

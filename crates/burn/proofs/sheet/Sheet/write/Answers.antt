@@ -4,8 +4,8 @@ use Rattle.burn.proofs.Checks.{few_entries}
 use Rattle.burn.proofs.Writes.{file_over, answer_over}
 use Rattle.burn.proofs.sheet.Sheet.write.Goals as goal
 
-pub write-entries-requires : goal.write-entries-requires
-write-entries-requires c =
+pub write_entries-requires : goal.write_entries-requires
+write_entries-requires c =
     let s = c.args.self.now in
     let k = few_entries s.inputs s.limit s.spent (vec_items s.entries) s.kept in (omega arith, omega arith)
 
@@ -15,5 +15,5 @@ returns c =
     let l : needed (contents s) ≤ length c.args.buffer.now = search rules in
     record {
       answer = answer_over (contents s) c.len.result c.args.buffer.now (search rules) l;
-      after = file_over (contents s) _ _ c.args.buffer.now _ c.as-slice.ensures.value (c.copy-from-slice.ensures.after ∙ c.first-block-first.ensures) l c.write-entries.ensures;
+      after = file_over (contents s) _ _ c.args.buffer.now _ c.as_slice.ensures.value (c.copy_from_slice.ensures.after ∙ c.first_block-first.ensures) l c.write_entries.ensures;
     }

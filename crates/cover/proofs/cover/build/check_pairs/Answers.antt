@@ -9,7 +9,7 @@ returns-in-Some c =
 
 pub loop-place-preserved : goal.loop-place-preserved
 loop-place-preserved c =
-    sym (apart_step c.args.cubes.now c.loop-place.place None c.loop-place-test.true c.in-default.ensures.answer)
+    sym (apart_step c.args.cubes.now c.loop-place.place None c.loop-place-test.true c.in_default.ensures.answer)
     ∙ c.loop-place.invariant
 
 pub returns : goal.returns

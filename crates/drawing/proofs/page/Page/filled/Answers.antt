@@ -6,8 +6,8 @@ use Rattle.drawing.proofs.page.Page.filled.Goals as goal
 pub blank-page-requires : goal.blank-page-requires
 blank-page-requires c = let p = pow_mono {i = c.args.inputs + 1} {j = 17} (omega arith) in omega arith
 
-pub draw-level-requires : goal.draw-level-requires
-draw-level-requires c =
+pub draw_level-requires : goal.draw_level-requires
+draw_level-requires c =
     let here : suc (c.loop-level.level - 1) ≡ c.loop-level.level = omega arith in
     let more = rw here at (tri_more (c.loop-level.level - 1)) in
     let fits = tri_fits c.args.inputs (omega arith) in
@@ -31,8 +31,8 @@ loop-level-preserved c =
     let level : l - 1 ≡ i - suc (i - l) = omega arith in
     let done : suc (i - l) ≡ i - (l - 1) = omega arith in
     let inv = c.loop-level.invariant.1 in
-    let room = c.draw-level.ensures.room in (
-      c.draw-level.ensures.drawing
+    let room = c.draw_level.ensures.room in (
+      c.draw_level.ensures.drawing
           ∙ ap (λ d. with_pieces i c.args.bits (l - 1) (l - 1 + 1) d) c.loop-level.invariant.0
           ∙ ap (λ j. with_pieces i c.args.bits j (j + 1) (with_levels i c.args.bits (i - l))) level
           ∙ ap (λ n. with_levels i c.args.bits n) done,

@@ -10,7 +10,7 @@ loop-account-preserved c =
     let i = c.loop-account.account-index in
     let m = map_more entry_from xs i no_account c.loop-account-test.true in
     let r = get_or_read xs i c.account-item.result c.loop-account-test.true c.account-item.is no_account in
-    c.in-ok-push.ensures.items
+    c.in_ok-push.ensures.items
     ∙ (ap (λ ys. ys ++ c.entry.result ∷ []) c.loop-account.invariant ∙ (ap (λ y. map entry_from (take i xs) ++ y ∷ []) (c.entry.ensures ∙ ap entry_from r) ∙ sym m))
 
 pub returns : goal.returns

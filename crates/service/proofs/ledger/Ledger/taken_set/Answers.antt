@@ -9,8 +9,8 @@ use Rattle.service.proofs.ledger.Ledger.taken_set.Goals.{then-account, else-acco
 pub loop-output-init : goal.loop-output-init
 loop-output-init c = sym (flags_none (vec_items c.args.self.now.accounts))
 
-pub overflow-add-set : goal.overflow-add-set
-overflow-add-set c =
+pub overflow_add-set : goal.overflow_add-set
+overflow_add-set c =
     let few = c.args.self.now.few in
     let same = ap length c.deref-account-items.ensures.value in
     let small = flags_fit (vec_items c.args.self.now.accounts) c.loop-output.output in

@@ -17,7 +17,7 @@ returns-in-Some g c t lines h =
 
 pub returns : goal.returns
 returns g c t lines h =
-    let e : settled lines c.args.number c.args.command ≡ None = sym (c.in-default.ensures ∙ ap (λ l. settled l c.args.number c.args.command) h.log) in
+    let e : settled lines c.args.number c.args.command ≡ None = sym (c.in_default.ensures ∙ ap (λ l. settled l c.args.number c.args.command) h.log) in
     let f = fresh_open lines c.args.number c.args.command e in
     let d = c.decide-answer.ensures t lines h.ledger h.kept in
     let more : logged (account t) lines c.args.number c.args.command ≡ with_line lines c.args.command c.decide-answer.result

@@ -8,20 +8,20 @@ use Rattle.service.proofs.service.Service.read.Goals as goal
 
 pub returns-then-bits-row-eq1 : goal.returns-then-bits-row-eq1
 returns-then-bits-row-eq1 g c t lines h =
-    let p = account_told t lines _ _ _ h.ledger c.in-ok-account.ensures in
-    let row = row_told c.size.result c.args.output c.args.row c.in-ok-check-row.ensures in
+    let p = account_told t lines _ _ _ h.ledger c.in_ok-account.ensures in
+    let row = row_told c.size.result c.args.output c.args.row c.in_ok-check_row.ensures in
     let same : c.size.result.inputs ≡ t.meaning.inputs = ap (λ s. s.inputs) c.size.ensures ∙ ap (λ m. m.inputs) h.meaning in
     let there : c.args.row < 2 ^ t.meaning.inputs = rw (← same) row in
     let one : value c.bits.result (ones c.args.row) ≡ true = eq-eqb _ _ (sym (and_mask (c.bits.result / 2 ^ ones c.args.row) 1) ∙ c.if-bits-row-eq1.true) in
-    taken_read t lines c.args.output c.args.row c.in-ok-account.account true p.0 p.1 c.if-not-account.false there
+    taken_read t lines c.args.output c.args.row c.in_ok-account.account true p.0 p.1 c.if-not-account.false there
     (ap (λ b. value b (ones c.args.row)) (sym c.bits.ensures) ∙ one)
 
 pub returns : goal.returns
 returns g c t lines h =
-    let p = account_told t lines _ _ _ h.ledger c.in-ok-account.ensures in
-    let row = row_told c.size.result c.args.output c.args.row c.in-ok-check-row.ensures in
+    let p = account_told t lines _ _ _ h.ledger c.in_ok-account.ensures in
+    let row = row_told c.size.result c.args.output c.args.row c.in_ok-check_row.ensures in
     let same : c.size.result.inputs ≡ t.meaning.inputs = ap (λ s. s.inputs) c.size.ensures ∙ ap (λ m. m.inputs) h.meaning in
     let there : c.args.row < 2 ^ t.meaning.inputs = rw (← same) row in
     let one : value c.bits.result (ones c.args.row) ≡ false = ne_eqb _ _ (λ e. c.if-bits-row-eq1.false (and_mask (c.bits.result / 2 ^ ones c.args.row) 1 ∙ e)) in
-    taken_read t lines c.args.output c.args.row c.in-ok-account.account false p.0 p.1 c.if-not-account.false there
+    taken_read t lines c.args.output c.args.row c.in_ok-account.account false p.0 p.1 c.if-not-account.false there
     (ap (λ b. value b (ones c.args.row)) (sym c.bits.ensures) ∙ one)

@@ -4,14 +4,14 @@ use Rattle.std.proofs.lemmas.Bool.{cond-true, cond-false, lt-ltb, le-ltb}
 use Rattle.service.proofs.Prices.{price_step, price_end}
 use Rattle.service.proofs.service.open.check_prices.Goals as goal
 
-pub returns-then-not-is-fair : goal.returns-then-not-is-fair
-returns-then-not-is-fair c =
-    sym (price_step c.args.outputs c.args.prices.now c.loop-position.position c.loop-position-test.true ∙ cond-false _ _ _ (sym c.if-not-is-fair.ensures))
+pub returns-then-not-is_fair : goal.returns-then-not-is_fair
+returns-then-not-is_fair c =
+    sym (price_step c.args.outputs c.args.prices.now c.loop-position.position c.loop-position-test.true ∙ cond-false _ _ _ (sym c.if-not-is_fair.ensures))
     ∙ c.loop-position.invariant
 
 pub loop-position-preserved : goal.loop-position-preserved
 loop-position-preserved c =
-    sym (price_step c.args.outputs c.args.prices.now c.loop-position.position c.loop-position-test.true ∙ cond-true _ _ _ (sym c.if-not-is-fair.ensures))
+    sym (price_step c.args.outputs c.args.prices.now c.loop-position.position c.loop-position-test.true ∙ cond-true _ _ _ (sym c.if-not-is_fair.ensures))
     ∙ c.loop-position.invariant
 
 pub returns-then-prices-outputs : goal.returns-then-prices-outputs

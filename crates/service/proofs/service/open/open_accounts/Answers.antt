@@ -9,15 +9,15 @@ use Rattle.service.proofs.Prices.{priced_length}
 use Rattle.service.proofs.Opening.{found_told, never_refused, more_accounts, nothing_taken}
 use Rattle.service.proofs.service.open.open_accounts.Goals as goal
 
-pub overflow-cast-output : goal.overflow-cast-output
-overflow-cast-output g c =
+pub overflow_cast-output : goal.overflow_cast-output
+overflow_cast-output g c =
     let m : Meaning = g.D.Design.meaning c.args.design.now in
     let n = priced_length m.outputs 0 c.args.prices.now (omega arith) c.requires in
     let few = (g.met.D.Design.sound c.args.design.now).few_outputs in
     omega arith
 
-pub push-reserved-requires : goal.push-reserved-requires
-push-reserved-requires g c =
+pub push_reserved-requires : goal.push_reserved-requires
+push_reserved-requires g c =
     let m : Meaning = g.D.Design.meaning c.args.design.now in
     let n = priced_length m.outputs 0 c.args.prices.now (omega arith) c.requires in
     let few = (g.met.D.Design.sound c.args.design.now).few_outputs in
@@ -25,22 +25,22 @@ push-reserved-requires g c =
     let count = c.loop-output.invariant.1 in
     omega arith
 
-pub returns-in-err-vector : goal.returns-in-err-vector
-returns-in-err-vector g c =
+pub returns-in_err-vector : goal.returns-in_err-vector
+returns-in_err-vector g c =
     let m : Meaning = g.D.Design.meaning c.args.design.now in
     let n = priced_length m.outputs 0 c.args.prices.now (omega arith) c.requires in
     let inside : c.loop-output.output < m.outputs = omega arith in
-    absurd (never_refused m c.loop-output.output c.in-err-vector.field-0.0 inside c.in-err-vector.ensures.answer)
+    absurd (never_refused m c.loop-output.output c.in_err-vector.field-0.0 inside c.in_err-vector.ensures.answer)
 
 pub loop-output-preserved : goal.loop-output-preserved
 loop-output-preserved g c =
     let m : Meaning = g.D.Design.meaning c.args.design.now in
     let n = priced_length m.outputs 0 c.args.prices.now (omega arith) c.requires in
     let inside : c.loop-output.output < m.outputs = omega arith in
-    let found = found_told m c.loop-output.output c.in-ok-vector.field-0 inside c.in-ok-vector.ensures.answer in
-    let a : Account = record { price = get_or c.args.prices.now c.loop-output.output 0; vector = c.in-ok-vector.field-0.vector; wrong = c.in-ok-vector.field-0.wrong; taken = false } in
-    let items : vec_items c.push-reserved.new.self ≡ vec_items c.loop-output.accounts ++ a ∷ [] = c.push-reserved.ensures.items in
-    let room = c.push-reserved.ensures.capacity in
+    let found = found_told m c.loop-output.output c.in_ok-vector.field-0 inside c.in_ok-vector.ensures.answer in
+    let a : Account = record { price = get_or c.args.prices.now c.loop-output.output 0; vector = c.in_ok-vector.field-0.vector; wrong = c.in_ok-vector.field-0.wrong; taken = false } in
+    let items : vec_items c.push_reserved.new.self ≡ vec_items c.loop-output.accounts ++ a ∷ [] = c.push_reserved.ensures.items in
+    let room = c.push_reserved.ensures.capacity in
     let cap = c.loop-output.invariant.0 in
     let count = c.loop-output.invariant.1 in (
       omega arith,
