@@ -1,5 +1,6 @@
 // Prints what a burn file on standard input holds, or why it is refused.
 #![tactic(auto)]
+
 mod input;
 
 use report::report_of;
