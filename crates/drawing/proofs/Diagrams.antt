@@ -59,8 +59,8 @@ reduced inputs bits =
     let d : Draft = with_levels inputs bits inputs in
     let whole : Whole inputs bits 0 d = subst (λ l. Whole inputs bits l d) all (levels_whole inputs bits inputs (omega arith)) in
     record {
-      computes = λ row h. (whole.own_val 0 (omega arith)).reads row h ∙ ap (λ w. mark_of (val bits w)) (zero-add (ones (row / 1)) ∙ ap ones (div-one row)) ∙ value_marked bits (ones row);
-      rooted = (whole.own_val 0 (omega arith)).valid;
+      computes = λ row h. (whole.own 0 (omega arith)).reads row h ∙ ap (λ w. mark_of (val bits w)) (zero-add (ones (row / 1)) ∙ ap ones (div-one row)) ∙ value_marked bits (ones row);
+      rooted = (whole.own 0 (omega arith)).valid;
       ordered = whole.table.fit;
       decides = whole.table.decides;
       once = whole.table.once;

@@ -16,7 +16,7 @@ pub begun : (inputs bits level : ℕ) (d : Draft) → Whole inputs bits (level +
 begun inputs bits level d whole =
     record {
       table = whole.table;
-      after = whole.own_val;
+      after = whole.own;
       own = λ i h. absurd (omega arith);
       kept = λ i h. refl;
       led = λ place h. inl (whole.led place h);

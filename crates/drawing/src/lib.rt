@@ -1,5 +1,6 @@
 // Symmetric functions drawn as reduced ordered decision diagrams.
 #![tactic(auto)]
+
 mod buffer;
 mod drawn;
 mod fill;

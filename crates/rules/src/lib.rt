@@ -1,5 +1,6 @@
 // Calls and replies of the numbered service, the rules that give each reply, and what is promised of them.
 #![tactic(auto)]
+
 mod call;
 mod theorems;
 
