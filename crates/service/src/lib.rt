@@ -1,5 +1,6 @@
 // The numbered service: accounts, a ledger, a log, and the calls on them.
 #![tactic(auto)]
+
 mod account;
 mod book;
 mod ledger;

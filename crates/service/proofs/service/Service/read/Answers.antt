@@ -1,10 +1,20 @@
-use Rattle.std.proofs.Common.{◌≡◌, ◌/◌, ◌^◌, ◌<◌, true, false, sym, ap, ◌∙◌}
+use Rattle.std.proofs.Common.{◌≡◌, ◌/◌, ◌^◌, ◌<◌, true, false, sym, ap, ◌∙◌, arith}
 use lib.Bits.{and_mask}
 use lib.Count.{ones}
 use Rattle.std.proofs.lemmas.Bool.{eq-eqb, ne_eqb}
+use Rattle.std.proofs.lemmas.Nat.{ones-le}
 use Rattle.symmetric.specs.Vectors.{value}
 use Rattle.service.proofs.Handing.{account_told, row_told, taken_read}
 use Rattle.service.proofs.service.Service.read.Goals as goal
+
+-- a row that is there has no more ones than there are inputs, which are 16 at most
+pub overflow_shr-bits : goal.overflow_shr-bits
+overflow_shr-bits g c =
+    let sound = g.met.D.Design.sound c.args.self.now.design in
+    let few = sound.few_inputs in
+    let same = ap (λ s. s.inputs) c.size.ensures in
+    let weight = ones-le c.size.result.inputs c.args.row (row_told c.size.result c.args.output c.args.row c.in_ok-check_row.ensures) in
+    omega arith
 
 pub returns-then-bits-row-eq1 : goal.returns-then-bits-row-eq1
 returns-then-bits-row-eq1 g c t lines h =
