@@ -1,5 +1,6 @@
 // Known figures and counts: designs of every make, their tallies held to a count over all rows, and drawings read back.
 #![tactic(auto)]
+
 mod compare;
 mod drawn;
 mod makes;

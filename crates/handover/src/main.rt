@@ -1,5 +1,6 @@
 // One handover from a camera's tables to a burn file, each action printed with its reply.
 #![tactic(auto)]
+
 mod camera;
 mod story;
 mod words;
