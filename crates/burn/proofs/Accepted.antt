@@ -1,17 +1,16 @@
 -- A block whose sum, padding and fields were passed is the one that is written of them.
-use Rattle.std.proofs.Common.{◌≡◌, ℕ, zero, suc, ◌+◌, ◌-◌, ◌*◌, ◌<◌, ◌≤◌, Bool, true, false, cond, eqb, List, [], ◌∷◌, ◌++◌, length, get_or, take, drop, Ok, Err, Result, sym, refl, ap, ◌∙◌, ⊎_elim, le_trans, add-one, arith}
+use Rattle.std.proofs.Common.{◌≡◌, ℕ, zero, suc, ◌+◌, ◌*◌, ◌<◌, ◌≤◌, Bool, true, false, cond, eqb, List, [], ◌∷◌, ◌++◌, length, get_or, take, drop, Ok, Err, sym, refl, ap, ◌∙◌, ⊎_elim, le_trans, add-one, arith}
 use Rattle.std.proofs.lemmas.List.{drop_more, drop_all, drop-drop, length-drop, length-take, length-take-le, get_or-take, get_or-drop, get_or_past, take-append-drop, ext_get_or}
 use Rattle.std.proofs.lemmas.Bool.{eqb-true, cases_lt}
 use Rattle.std.proofs.lemmas.Bool.Decides.{nat_tests}
-use Rattle.refusal.specs.declared.table.Refusal.{Refusal}
 use Rattle.refusal.specs.declared.table.Refusal.TheVariants.{BlockSum}
-use Rattle.burn.specs.Blocks.{Bytes, bytes4, little, weighed, front, sealed, block, then, summed, sums}
+use Rattle.burn.specs.Blocks.{Bytes, bytes4, little, weighed, front, sealed, block, summed, sums}
 use Rattle.burn.specs.Files.{Contents, flag, head_block, entry_block, entry_blocks, written, entry_read, entries_read, loaded}
 use Rattle.burn.specs.declared.entry.Entry.{Entry}
 use Rattle.burn.specs.declared.entry.Head.{Head}
 use Rattle.burn.proofs.Fronts.{length_front}
 use Rattle.burn.proofs.Sealed.{bytes_of, front_low, front_high}
-use Rattle.burn.proofs.Loads.{no_value, same_value, then_ok, EntryRead, entry_read_ok, HeadRead, head_read_ok, FieldsRead, FileRead, loaded_ok, entries_kept, counted_ok}
+use Rattle.burn.proofs.Loads.{no_value, same_value, then_ok, EntryRead, entry_read_ok, HeadRead, head_read_ok, loaded_ok, counted_ok}
 
 -- four elements, and the rest
 drop_four : (xs : List ℕ) (i : ℕ) → i + 4 ≤ length xs → drop i xs ≡ get_or xs i 0 ∷ get_or xs (i + 1) 0 ∷ get_or xs (i + 2) 0 ∷ get_or xs (i + 3) 0 ∷ drop (i + 4) xs

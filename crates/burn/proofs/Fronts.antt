@@ -1,7 +1,7 @@
 -- A block's first twelve bytes, its zeros and its sum, as the code lays them down.
-use Rattle.std.proofs.Common.{◌≡◌, ℕ, ◌+◌, ◌-◌, ◌≤◌, List, [], ◌∷◌, ◌++◌, length, take, drop, replicate, sym, refl, ap, ◌∙◌, append_assoc, arith, rules}
+use Rattle.std.proofs.Common.{◌≡◌, ℕ, ◌+◌, List, [], ◌++◌, length, take, drop, replicate, sym, ap, ◌∙◌, append_assoc, arith}
 use borrow.Rule.Slice.PartMut.{put_mid}
-use Rattle.std.proofs.lemmas.List.{take_at, drop_at, drop_all, drop-drop, length-append, length-replicate, replicate-append-replicate, append-nil}
+use Rattle.std.proofs.lemmas.List.{take_at, drop_all, drop-drop, length-append, length-replicate, replicate-append-replicate, append-nil}
 use Rattle.burn.specs.Blocks.{bytes4, weighed, padding, front, sealed}
 
 -- 500 zeros begin with the padding

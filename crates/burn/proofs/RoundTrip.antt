@@ -1,12 +1,12 @@
 -- The file that is written of some values loads as those values, or is refused as they are.
-use Rattle.std.proofs.Common.{◌≡◌, ℕ, zero, suc, ◌+◌, ◌-◌, ◌*◌, ◌/◌, ◌%◌, ◌^◌, ◌<◌, ◌≤◌, Bool, true, false, cond, ◌&&◌, eqb, leb, List, [], ◌∷◌, ◌++◌, length, get_or, take, drop, Ok, Err, Result, sym, refl, ap, ◌∙◌, add-one, arith, lit<}
+use Rattle.std.proofs.Common.{◌≡◌, ℕ, zero, suc, ◌+◌, ◌-◌, ◌*◌, ◌/◌, ◌%◌, ◌^◌, ◌<◌, ◌≤◌, Bool, true, false, ◌&&◌, eqb, leb, List, [], ◌∷◌, ◌++◌, length, get_or, take, drop, Ok, Err, Result, sym, refl, ap, ◌∙◌, add-one, arith, lit<}
 use Rattle.std.proofs.lemmas.Nat.{mod_below}
 use Rattle.std.proofs.lemmas.List.{take_at, drop_at, drop-drop, length-append}
 use Rattle.std.proofs.lemmas.Bool.{eq-eqb, le-leb, and_from, and_parts, cond-true}
 use Rattle.refusal.specs.declared.table.Refusal.{Refusal}
-use Rattle.burn.specs.Blocks.{Bytes, bytes4, little, sealed, block, then, summed, sums, field, zeros}
+use Rattle.burn.specs.Blocks.{Bytes, bytes4, little, sealed, block, then, summed, sums, field}
 use Rattle.burn.specs.Rules.{within, vector_fits, wrong_fits, entry_keeps, entries_keep, costs, keeps, agreed, entry_checked, entries_checked}
-use Rattle.burn.specs.Files.{Contents, contents, Typed, no_entry, flag, head_block, entry_block, entry_blocks, written, counted, head_read, entry_read, entries_read, blocks_read, fields_read, joined, loaded, checked}
+use Rattle.burn.specs.Files.{Contents, Typed, no_entry, flag, head_block, entry_block, entry_blocks, written, counted, head_read, entry_read, entries_read, blocks_read, joined, loaded, checked}
 use Rattle.burn.specs.declared.entry.Entry.{Entry}
 use Rattle.burn.specs.declared.entry.Head.{Head}
 use Rattle.burn.proofs.Checks.{few_entries}

@@ -1,9 +1,9 @@
 -- What stands where in a closed block, and that such a block is read as what it was made of.
-use Rattle.std.proofs.Common.{◌≡◌, ℕ, zero, suc, ◌+◌, ◌-◌, ◌*◌, ◌/◌, ◌%◌, ◌^◌, ◌<◌, ◌≤◌, true, cond, eqb, ◌⊎◌, List, [], ◌∷◌, ◌++◌, length, get_or, take, drop, replicate, Ok, Err, Result, sym, refl, ap, ◌∙◌, subst, inl, inr, ⊎_elim, append_assoc, add-zero, mod-eq_of_lt, arith}
+use Rattle.std.proofs.Common.{◌≡◌, ℕ, zero, suc, ◌+◌, ◌-◌, ◌*◌, ◌/◌, ◌%◌, ◌^◌, ◌<◌, ◌≤◌, eqb, List, [], ◌∷◌, length, get_or, take, drop, Ok, sym, refl, ap, ◌∙◌, ⊎_elim, add-zero, mod-eq_of_lt, arith}
 use Rattle.std.proofs.lemmas.Nat.{mul-le, shr-shr, div-add-mod', div-mul-add, mod-mul-add, div_below}
-use Rattle.std.proofs.lemmas.List.{append-nil, take_at, drop_at, drop_more, drop-drop, length-append, length-drop, length-take-le, get_or_append_left, get_or-append_right, get_or-replicate, get_or-drop, get_or-take, take-append-drop, ext_get_or, get_or_past, drop-take}
+use Rattle.std.proofs.lemmas.List.{take_at, drop_at, get_or_append_left, get_or-append_right, get_or-replicate, get_or-drop, get_or-take, get_or_past}
 use Rattle.std.proofs.lemmas.Bool.{eq-eqb, cond-true, cases_lt}
-use Rattle.burn.specs.Blocks.{Bytes, bytes4, little, weighed, padding, front, sealed, summed, field, zeros}
+use Rattle.burn.specs.Blocks.{Bytes, bytes4, little, weighed, padding, front, sealed, summed, zeros}
 use Rattle.burn.proofs.Fronts.{length_padding, length_front}
 
 -- a number of four digits to the base 256

@@ -1,6 +1,6 @@
 -- What holds of numbered commands however they are sent: for whoever trusts the spent figure or sends a command twice.
 -- Lists of commands are any lists, with gaps, repeats and refusals among them; costs and limit are any numbers.
-use Rattle.std.specs.Prelude.{◌≡◌, ℕ, zero, suc, ◌+◌, ◌<◌, ◌≤◌, Bool, true, false, cond, ◌≢◌, ◌↔◌, List, [], ◌∷◌, ◌++◌, length, take}
+use Rattle.std.specs.Prelude.{◌≡◌, ℕ, ◌+◌, ◌<◌, ◌≤◌, Bool, true, false, cond, ◌≢◌, ◌↔◌, List, [], ◌∷◌, ◌++◌, length, take}
 use Rattle.rows.specs.Rows.{sum_below}
 use Rattle.refusal.specs.declared.table.Refusal.TheVariants.{OverLimit}
 use Rattle.commands.specs.declared.command.Command.{Command}

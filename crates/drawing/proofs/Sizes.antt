@@ -1,9 +1,9 @@
 -- How many nodes a drawing has: a piece adds at most one.
-use Rattle.std.proofs.Common.{◌≡◌, ℕ, zero, suc, ◌+◌, ◌-◌, ◌≤◌, eqb, List, length, Some, None, Option, refl, arith}
+use Rattle.std.proofs.Common.{◌≡◌, ℕ, zero, suc, ◌+◌, ◌-◌, ◌≤◌, eqb, length, Some, None, Option, arith}
 use Rattle.std.proofs.lemmas.List.{length_push}
 use Rattle.std.proofs.lemmas.Bool.{cond_both}
 use Rattle.diagram.specs.declared.node.Node.{Node}
-use Rattle.drawing.specs.Pieces.{Draft, piece, all_ones, referred, settled, node_of, place_of, with_piece, with_pieces, with_levels, drawn}
+use Rattle.drawing.specs.Pieces.{Draft, piece, all_ones, settled, node_of, place_of, with_piece, with_pieces, with_levels, drawn}
 use Rattle.drawing.proofs.Rooms.{tri, tri_more, tri_fits}
 
 -- at most one node more

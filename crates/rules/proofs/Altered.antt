@@ -1,5 +1,5 @@
 -- What a fresh command changes in what ask is replied.
-use Rattle.std.proofs.Common.{◌≡◌, ℕ, ◌+◌, ◌-◌, ◌*◌, ◌^◌, ◌<◌, Bool, true, false, List, [], ◌∷◌, ◌++◌, length, sym, ap, ◌∙◌, arith}
+use Rattle.std.proofs.Common.{◌≡◌, ℕ, ◌+◌, ◌*◌, ◌^◌, ◌<◌, Bool, true, false, List, [], ◌∷◌, ◌++◌, length, sym, ap, ◌∙◌, arith}
 use mathlib.Core.Path.{fun_ext}
 use Rattle.std.proofs.lemmas.List.{length_push}
 use Rattle.rows.specs.Rows.{sum_below, bit}
@@ -16,7 +16,7 @@ use Rattle.commands.proofs.Logs.{next_line, fresh_answer}
 use Rattle.commands.proofs.Changed.{decided_changes}
 use Rattle.commands.proofs.Limits.{next_fresh}
 use Rattle.rules.specs.declared.call.Call.{Call}
-use Rattle.rules.specs.Rules.{Terms, account, price, taken_set, Said, Said.asked, lines}
+use Rattle.rules.specs.Rules.{Terms, account, price, taken_set, Said.asked, lines}
 use Rattle.rules.specs.Standing.{Alters, RefusedNow, Fresh, sent, misread}
 use Rattle.rules.proofs.Runs.{lines_one, sent_reply, sent_logs, calls_keep, said_again}
 use Rattle.rules.proofs.Handed.{digits, misread_taken}

@@ -8,7 +8,7 @@ use Rattle.commands.specs.declared.command.Answer.{Answer}
 use Rattle.commands.specs.Rules.{taken, spent, log_room}
 use Rattle.commands.proofs.Limits.{fits}
 use Rattle.rules.specs.declared.call.Call.{Call}
-use Rattle.rules.specs.Rules.{Terms, account, price, Said, Said.answered, lines}
+use Rattle.rules.specs.Rules.{Terms, account, price, Said.answered, lines}
 use Rattle.rules.specs.Standing.{spent_with, Limited}
 
 -- no symmetric function costs less than the nearest

@@ -18,7 +18,7 @@ use Rattle.commands.specs.Rules.{taken, spent}
 use Rattle.commands.specs.Promise.{Kept}
 use Rattle.rules.specs.declared.call.Call.{Call}
 use Rattle.rules.specs.declared.call.Call.TheVariants as call
-use Rattle.rules.specs.Rules.{Terms, account, price, taken_set, handed, Said, Said.marks, reply, lines}
+use Rattle.rules.specs.Rules.{Terms, account, price, taken_set, handed, Said.marks, reply, lines}
 use Rattle.rules.specs.Standing.{in_set, wrong_mark, wrong_reply, misread}
 use Rattle.rules.proofs.Runs.{calls_keep}
 

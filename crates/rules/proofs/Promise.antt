@@ -14,7 +14,7 @@ use Rattle.commands.specs.Rules.{taken, spent, used}
 use Rattle.commands.proofs.Limits.{put_back}
 use Rattle.rules.specs.declared.call.Call.{Call}
 use Rattle.rules.specs.declared.call.Call.TheVariants as call
-use Rattle.rules.specs.Rules.{Terms, account, taken_set, drawing, Said, Said.answered, Said.asked, reply, logs, lines_from, lines, replies_from, replies, says}
+use Rattle.rules.specs.Rules.{Terms, account, taken_set, drawing, Said.answered, Said.asked, reply, logs, lines_from, lines, replies_from, replies, says}
 use Rattle.rules.specs.Standing.{Nearest, Replaced, Untouched, Absent, Stands, sent}
 use Rattle.rules.specs.Promise.{Promised, is_repeat}
 use Rattle.rules.proofs.Runs.{replies_one, sent_reply, repeat_adds_none, others_add_none, lines_without, calls_keep}

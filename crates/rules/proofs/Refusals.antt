@@ -1,5 +1,5 @@
 -- Commands that are refused by their number, by the room of the log, or by what is taken.
-use Rattle.std.proofs.Common.{◌≡◌, ℕ, ◌+◌, ◌-◌, ◌<◌, ◌≤◌, true, false, ◌||◌, eqb, ltb, leb, ◌⊎◌, List, length, ◌∙◌, ⊎_elim, arith}
+use Rattle.std.proofs.Common.{◌≡◌, ℕ, ◌+◌, ◌<◌, ◌≤◌, true, false, ◌||◌, eqb, ltb, leb, ◌⊎◌, List, length, ◌∙◌, ⊎_elim, arith}
 use Rattle.std.proofs.lemmas.Bool.{and_parts, and_cases, both_ways, cond-true, cond-false, or_from, or_left, or_right, eq-eqb, ne_eqb, lt-ltb, le-ltb, lt-leb, leb-true}
 use Rattle.refusal.specs.declared.table.Refusal.TheVariants.{NoOutput, Gap, NumberUsed, LogFull, AlreadyTaken, NotTaken}
 use Rattle.commands.specs.declared.command.Command.{Command}

@@ -11,7 +11,7 @@ use Rattle.commands.proofs.Runs.{answered_again}
 use Rattle.commands.proofs.Keeping.{all_kept}
 use Rattle.rules.specs.declared.call.Call.{Call}
 use Rattle.rules.specs.declared.call.Call.TheVariants as call
-use Rattle.rules.specs.Rules.{Terms, account, Said, Said.answered, reply, logs, lines_from, lines, replies_from, replies, says}
+use Rattle.rules.specs.Rules.{Terms, account, Said.answered, reply, logs, lines_from, lines, replies_from, replies, says}
 use Rattle.rules.specs.Standing.{sent}
 use Rattle.rules.specs.Promise.{is_repeat, is_fresh}
 

@@ -1,19 +1,17 @@
 -- A ledger that says what the rules say decides by them, and says so after one line more.
-use Rattle.std.proofs.Common.{◌≡◌, ℕ, ◌+◌, ◌-◌, ◌*◌, ◌<◌, ◌≤◌, min, Bool, true, false, cond, eqb, ltb, leb, List, length, get_or, set, vec_items, sym, refl, ap, ◌∙◌, ap₂, ⊎_elim, arith, length-set}
+use Rattle.std.proofs.Common.{◌≡◌, ℕ, ◌+◌, ◌-◌, ◌*◌, ◌<◌, min, Bool, true, false, cond, eqb, ltb, leb, List, length, get_or, vec_items, sym, refl, ap, ◌∙◌, ap₂, ⊎_elim, arith, length-set}
 use Rattle.std.proofs.lemmas.List.{get_or-set_same, get_or-set_other}
 use Rattle.std.proofs.lemmas.Bool.{cases_eq, cond-true, cond-false, eq-eqb, ne_eqb, ltb-true}
-use Rattle.refusal.specs.declared.table.Refusal.TheVariants.{NoOutput, AlreadyTaken, NotTaken, OverLimit}
-use Rattle.symmetric.specs.Nearest.{wrong}
-use Rattle.commands.specs.declared.command.Command.{Command}
+use Rattle.refusal.specs.declared.table.Refusal.TheVariants.{AlreadyTaken, NotTaken, OverLimit}
 use Rattle.commands.specs.declared.command.Command.TheVariants.{Take, Back}
 use Rattle.commands.specs.declared.command.Answer.{Answer}
 use Rattle.commands.specs.declared.command.Answer.TheVariants.{Taken, PutBack, Refused}
 use Rattle.commands.specs.declared.command.Line.{Line}
-use Rattle.commands.specs.Rules.{taken, spent, figure, taken_by, decided, decided_take, decided_back, with_line}
+use Rattle.commands.specs.Rules.{taken, spent, decided, with_line}
 use Rattle.commands.specs.Promise.{Kept, Changes}
 use Rattle.commands.proofs.Logs.{taken_more, spent_more}
 use Rattle.commands.proofs.Changed.{decided_changes}
-use Rattle.rules.specs.Rules.{Terms, price, account}
+use Rattle.rules.specs.Rules.{Terms, account}
 use Rattle.service.specs.declared.account.Account.{Account}
 use Rattle.service.specs.declared.ledger.Ledger.{Ledger}
 use Rattle.service.specs.Books.{no_account, account_of, marked_taken, with_taken, cost, take_answer, back_answer, accounts_after, spent_after}

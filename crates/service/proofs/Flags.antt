@@ -1,10 +1,9 @@
 -- The taken set, account by account.
-use Rattle.std.proofs.Common.{◌≡◌, ℕ, suc, ◌+◌, ◌*◌, ◌^◌, ◌<◌, Bool, true, false, List, length, get_or, vec_items, sym, refl, ap, ◌∙◌, add-one, arith}
+use Rattle.std.proofs.Common.{◌≡◌, ℕ, ◌+◌, ◌*◌, ◌^◌, ◌<◌, true, false, List, length, get_or, vec_items, refl, ap, ◌∙◌, add-one, arith}
 use Rattle.rows.specs.Rows.{sum_below, bit}
 use Rattle.rows.proofs.Sums.{sum_last, sum_cong}
 use Rattle.symmetric.proofs.Bits.{number_fits}
 use Rattle.commands.specs.declared.command.Line.{Line}
-use Rattle.commands.specs.Rules.{taken}
 use Rattle.rules.specs.Rules.{Terms, taken_set}
 use Rattle.service.specs.declared.account.Account.{Account}
 use Rattle.service.specs.declared.ledger.Ledger.{Ledger}

@@ -1,13 +1,12 @@
 -- What is told of an account is what the rules say of its output.
-use Rattle.std.proofs.Common.{◌≡◌, ℕ, ◌+◌, ◌/◌, ◌%◌, ◌^◌, ◌<◌, Bool, true, false, cond, eqb, ltb, List, ◌++◌, length, get_or, take, drop, Ok, Err, vec_items, Result, sym, refl, ap, ◌∙◌, ap₂, arith}
-use lib.Bits.{bit_and}
+use Rattle.std.proofs.Common.{◌≡◌, ℕ, ◌^◌, ◌<◌, Bool, true, false, cond, ltb, List, ◌++◌, length, drop, Ok, Err, vec_items, Result, sym, refl, ap, ◌∙◌, ap₂, arith}
 use lib.Count.{ones}
 use Rattle.std.proofs.lemmas.List.{take_at}
 use Rattle.std.proofs.lemmas.Bool.{cond-true, cond-false, ltb-true, lt-ltb}
 use Rattle.refusal.specs.declared.table.Refusal.{Refusal}
 use Rattle.refusal.specs.declared.table.Refusal.TheVariants.{NoOutput, NoRow, NodesShort}
 use Rattle.design.specs.declared.size.Size.{Size}
-use Rattle.design.specs.Meaning.{Meaning, at_row, sized}
+use Rattle.design.specs.Meaning.{at_row}
 use Rattle.diagram.specs.declared.node.Node.{Node}
 use Rattle.symmetric.specs.Vectors.{value, held}
 use Rattle.symmetric.specs.Nearest.{bits}
@@ -17,7 +16,7 @@ use Rattle.drawing.specs.Reduced.{marked}
 use Rattle.commands.specs.declared.command.Line.{Line}
 use Rattle.commands.specs.Rules.{taken}
 use Rattle.rules.specs.declared.call.Call.TheVariants.{Read, Draw}
-use Rattle.rules.specs.Rules.{Terms, Said, marks, draws, reply, drawing, in_room, handed}
+use Rattle.rules.specs.Rules.{Terms, marks, draws, reply, drawing, in_room}
 use Rattle.service.specs.declared.account.Account.{Account}
 use Rattle.service.specs.declared.ledger.Ledger.{Ledger}
 use Rattle.service.specs.Books.{no_account, account_of, account_at}

@@ -1,6 +1,6 @@
 -- What is opened: an account for each output, and costs that are sayable.
-use Rattle.std.proofs.Common.{◌≡◌, ℕ, zero, suc, ◌+◌, ◌-◌, ◌*◌, ◌^◌, ◌<◌, ◌≤◌, Bool, true, false, cond, ltb, ◌⊎◌, List, [], ◌∷◌, ◌++◌, length, get_or, Ok, Err, Result, sym, refl, ap, ◌∙◌, inl, inr, ⊎_elim, mul-le-mul, arith, pow_mono}
-use Rattle.std.proofs.lemmas.List.{get_or_at, get_or_append_left, length_push}
+use Rattle.std.proofs.Common.{◌≡◌, ℕ, zero, suc, ◌+◌, ◌-◌, ◌*◌, ◌^◌, ◌<◌, ◌≤◌, false, ltb, List, [], ◌∷◌, ◌++◌, length, get_or, Ok, Err, Result, refl, ap, ◌∙◌, ⊎_elim, mul-le-mul, arith, pow_mono}
+use Rattle.std.proofs.lemmas.List.{get_or_at, get_or_append_left}
 use Rattle.std.proofs.lemmas.Bool.{cases_lt, cond-true, cond-false, lt-ltb, le-ltb}
 use Rattle.refusal.specs.declared.table.Refusal.{Refusal}
 use Rattle.refusal.specs.declared.table.Refusal.TheVariants.{NoOutput, CostTooLarge}
@@ -10,13 +10,12 @@ use Rattle.symmetric.specs.declared.found.Nearest.{Nearest}
 use Rattle.symmetric.specs.Vectors.{held}
 use Rattle.symmetric.specs.Nearest.{Found, told_nearest, nearest_to, bits, wrong}
 use Rattle.symmetric.proofs.Closest.{closest}
-use Rattle.commands.specs.declared.command.Line.{Line}
 use Rattle.commands.specs.Rules.{taken, spent}
 use Rattle.rules.specs.Rules.{Terms, account}
 use Rattle.service.specs.declared.account.Account.{Account}
 use Rattle.service.specs.Holds.{Accounted}
-use Rattle.service.specs.Opening.{terms, priced, priced_from, costs_below, opened}
-use Rattle.service.proofs.Prices.{priced_length, priced_small}
+use Rattle.service.specs.Opening.{priced, costs_below, opened}
+use Rattle.service.proofs.Prices.{priced_small}
 
 -- no cost is above 255 × 32,768
 pub cost_small : (t : Terms) (o : ℕ) → Sound t.meaning → priced t.meaning.outputs t.prices ≡ Ok tt → (account t).cost o ≤ 8355840

@@ -1,10 +1,10 @@
 -- The prices tried one after another.
-use Rattle.std.proofs.Common.{◌≡◌, ℕ, zero, suc, ◌+◌, ◌<◌, ◌≤◌, Bool, true, false, cond, ◌&&◌, ltb, leb, List, [], ◌∷◌, length, get_or, drop, Ok, Err, Result, sym, refl, ap, ◌∙◌, arith}
+use Rattle.std.proofs.Common.{◌≡◌, ℕ, zero, suc, ◌+◌, ◌<◌, ◌≤◌, Bool, true, false, cond, ◌&&◌, ltb, leb, List, [], ◌∷◌, length, get_or, drop, Ok, Err, Result, sym, refl, ◌∙◌, arith}
 use Rattle.std.proofs.lemmas.List.{at_drop_more, at_drop_all}
 use Rattle.std.proofs.lemmas.Bool.{and_parts, cond-true, cond-false, ltb-true, ltb-false, leb-true}
 use Rattle.refusal.specs.declared.table.Refusal.{Refusal}
 use Rattle.refusal.specs.declared.table.Refusal.TheVariants.{BadPrice}
-use Rattle.service.specs.Opening.{fair, priced_from, priced}
+use Rattle.service.specs.Opening.{fair, priced_from}
 
 pub price_step : (outputs : ℕ) (prices : List ℕ) (k : ℕ) → k < length prices
     → priced_from outputs k (drop k prices) ≡ cond (fair outputs k (get_or prices k 0)) (priced_from outputs (k + 1) (drop (k + 1) prices)) (Err (BadPrice k))

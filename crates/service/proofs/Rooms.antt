@@ -1,5 +1,5 @@
 -- Room for more nodes than any drawing has is room for every drawing.
-use Rattle.std.proofs.Common.{◌≡◌, ℕ, ◌≤◌, min, Bool, cond, ltb, List, length, ap, ◌∙◌, subst, arith}
+use Rattle.std.proofs.Common.{◌≡◌, ℕ, ◌≤◌, min, cond, ltb, List, length, ap, subst, arith}
 use Rattle.std.proofs.lemmas.Bool.Decides.{nat_tests}
 use Rattle.refusal.specs.declared.table.Refusal.TheVariants.{NoOutput, NotTaken, NodesShort}
 use Rattle.design.specs.Meaning.{Meaning, Sound}
@@ -11,7 +11,7 @@ use Rattle.commands.specs.Rules.{taken}
 use Rattle.rules.specs.declared.call.Call.TheVariants.{Draw}
 use Rattle.service.specs.declared.service.Service.{Service}
 use Rattle.service.specs.Holds.{Holds}
-use Rattle.rules.specs.Rules.{Terms, Said, Said.draws, Said.refused, drawing, in_room, reply}
+use Rattle.rules.specs.Rules.{Terms, Said.draws, Said.refused, drawing, in_room, reply}
 
 same_test : (len room n : ℕ) → n ≤ 136 → len ≡ min room 136 → ltb len n ≡ ltb room n
 same_test len room n h e = grind (arith, nat_tests)

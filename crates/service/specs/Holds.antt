@@ -1,8 +1,8 @@
 -- A service that stands as the rules have it after some log lines: for whoever trusts the replies of one.
 -- The lines, the accounts, the spent figure and the limit in its record are those that follow from the terms and the lines.
-use Rattle.std.specs.Prelude.{◌≡◌, ℕ, ◌<◌, ◌≤◌, Bool, List, length, vec_items, slice_index_or}
+use Rattle.std.specs.Prelude.{◌≡◌, ℕ, ◌<◌, ◌≤◌, List, length, vec_items, slice_index_or}
 use Rattle.design.specs.Meaning.{Meaning}
-use Rattle.symmetric.specs.Vectors.{Values, held}
+use Rattle.symmetric.specs.Vectors.{held}
 use Rattle.symmetric.specs.Nearest.{bits, wrong}
 use Rattle.commands.specs.declared.command.Answer.{Answer}
 use Rattle.commands.specs.declared.command.Command.{Command}

@@ -1,6 +1,6 @@
 -- What each call of a service replies, read as the rules' replies: for whoever makes one.
 -- A service that stands as the rules have it replies by them, whatever the terms and the lines are.
-use Rattle.std.specs.Prelude.{◌≡◌, ℕ, cond, List, length, take, Ok, Err, Result, nat_lt}
+use Rattle.std.specs.Prelude.{◌≡◌, ℕ, cond, List, take, Ok, Err, Result, nat_lt}
 use Rattle.refusal.specs.declared.table.Refusal.{Refusal}
 use Rattle.design.specs.declared.mark.Mark.{Mark}
 use Rattle.design.specs.Meaning.{Meaning}
@@ -12,7 +12,6 @@ use Rattle.commands.specs.Rules.{taken}
 use Rattle.rules.specs.declared.call.Asked.{Asked}
 use Rattle.rules.specs.declared.call.Shown.{Shown}
 use Rattle.rules.specs.declared.call.Call.{Call}
-use Rattle.rules.specs.declared.call.Call.TheVariants.{Draw}
 use Rattle.rules.specs.Rules.{Terms, Said, asked, shown, marks, draws, refused, reply, drawing}
 use Rattle.service.specs.declared.service.Service.{Service}
 use Rattle.service.specs.Holds.{Holds}

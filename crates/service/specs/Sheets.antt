@@ -1,6 +1,6 @@
 -- The burn sheet of a service, from its terms and the log lines so far: for whoever burns a chip of it.
 -- A price fits a byte, since an opening passes 1 to 255 alone.
-use Rattle.std.specs.Prelude.{◌≡◌, ℕ, zero, suc, min, ◌⊎◌, List, [], ◌∷◌, ◌++◌, map, Ok, Err, Result}
+use Rattle.std.specs.Prelude.{◌≡◌, ℕ, zero, suc, min, ◌⊎◌, List, [], ◌∷◌, ◌++◌, Ok, Err, Result}
 use Rattle.refusal.specs.declared.table.Refusal.{Refusal}
 use Rattle.refusal.specs.declared.table.Refusal.TheVariants.{NoMemory}
 use Rattle.design.specs.Meaning.{Meaning}

@@ -1,6 +1,6 @@
 -- The values of a symmetric function as one number, for whoever makes, reads or draws one.
 -- Bit w of the number is the value at weight w.
-use Rattle.std.specs.Prelude.{ℕ, ◌+◌, ◌/◌, ◌%◌, ◌^◌, Bool, true, cond, ◌&&◌, Some, None, Option, ◌==◌, nat_le, nat_lt}
+use Rattle.std.specs.Prelude.{ℕ, ◌+◌, ◌/◌, ◌%◌, ◌^◌, Bool, cond, ◌&&◌, Some, None, Option, ◌==◌, nat_le, nat_lt}
 use Rattle.symmetric.specs.declared.vector.ValueVector.{ValueVector}
 
 -- the value at weight w

@@ -1,4 +1,4 @@
-use Rattle.std.proofs.Common.{◌≡◌, ◌*◌, ◌<◌, ◌≤◌, sym, subst, arith}
+use Rattle.std.proofs.Common.{◌*◌, ◌≤◌, arith}
 use Rattle.burn.proofs.Sums.{weighed_more, weighed_all, one_adds}
 use Rattle.burn.proofs.block.weighted_sum.Goals as goal
 

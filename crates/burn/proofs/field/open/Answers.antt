@@ -1,4 +1,4 @@
-use Rattle.std.proofs.Common.{arith, rules}
+use Rattle.std.proofs.Common.{rules}
 use Rattle.burn.proofs.Fields.{opened_by}
 use Rattle.burn.proofs.field.open.Goals as goal
 

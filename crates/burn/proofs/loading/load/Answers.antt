@@ -1,7 +1,6 @@
-use Rattle.std.proofs.Common.{◌≡◌, ◌≤◌, take, is_ok, Ok, sym, refl, ap, ◌∙◌, inl, inr, rules}
+use Rattle.std.proofs.Common.{take, is_ok, Ok, sym, refl, ap, ◌∙◌, inl, inr, rules}
 use native.Mathlib.Nat.{sub-zero}
 use Rattle.std.proofs.lemmas.Result.{err_from_is_err_and}
-use Rattle.burn.specs.Files.{Contents}
 use Rattle.burn.proofs.Laws.{file_laws}
 use Rattle.burn.proofs.Loads.{loaded_by, loaded_stops, table_kept}
 use Rattle.burn.proofs.loading.load.Goals as goal
@@ -10,7 +9,7 @@ pub invariant_of-result : goal.invariant_of-result
 invariant_of-result c = record {
   kept =
       table_kept c.args.file.now c.in_ok-table.table.head c.in_ok-table.table.entries c.in_ok-table.table.outputs _ _
-          c.in_ok-table.ensures.value (search rules) c.in_ok-check_causes.ensures c.in_ok-kept.ensures.items;
+      c.in_ok-table.ensures.value (search rules) c.in_ok-check_causes.ensures c.in_ok-kept.ensures.items;
 }
 
 pub returns : goal.returns

@@ -1,4 +1,4 @@
-use Rattle.std.proofs.Common.{◌≡◌, ◌++◌, drop, vec_items, string_bytes}
+use Rattle.std.proofs.Common.{◌≡◌, ◌++◌, drop, string_bytes}
 use Rattle.burn.specs.Files.{contents}
 use Rattle.report.specs.Listing.{entry_lines, listed}
 use Rattle.report.proofs.text.listing_of.Given as goal

@@ -1,4 +1,4 @@
-use Rattle.std.proofs.Common.{◌≡◌, ◌≤◌, length, vec_items, ap, ◌∙◌, arith, rules}
+use Rattle.std.proofs.Common.{◌≤◌, length, vec_items, ◌∙◌, arith, rules}
 use Rattle.burn.specs.Files.{contents, needed}
 use Rattle.burn.proofs.Checks.{few_entries}
 use Rattle.burn.proofs.Writes.{file_over, answer_over}

@@ -1,4 +1,4 @@
-use Rattle.std.proofs.Common.{◌≡◌, length, sym, ap, ◌∙◌}
+use Rattle.std.proofs.Common.{length, ap, ◌∙◌}
 use Rattle.service.proofs.Flags.{flags_rules}
 use Rattle.service.proofs.service.Service.ask.Goals as goal
 

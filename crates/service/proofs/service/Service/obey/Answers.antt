@@ -1,5 +1,5 @@
-use Rattle.std.proofs.Common.{◌≡◌, [], ◌∷◌, ◌++◌, Some, None, vec_items, sym, ap, ◌∙◌, ap₂}
-use Rattle.commands.specs.Rules.{fresh, with_line, decided, logged}
+use Rattle.std.proofs.Common.{◌≡◌, Some, None, sym, ap, ◌∙◌}
+use Rattle.commands.specs.Rules.{with_line, logged}
 use Rattle.commands.proofs.Logs.{next_line, no_line_more, fresh_answer}
 use Rattle.commands.proofs.Changed.{logged_keeps}
 use Rattle.rules.specs.Rules.{account}

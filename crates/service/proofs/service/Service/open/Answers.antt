@@ -1,8 +1,8 @@
-use Rattle.std.proofs.Common.{◌≡◌, [], Ok, Err, sym, refl, ap, ◌∙◌, inl, inr, arith}
+use Rattle.std.proofs.Common.{◌≡◌, Ok, sym, refl, ap, ◌∙◌, inr, arith}
 use Rattle.std.proofs.lemmas.Result.{err_from_is_err_and}
 use Rattle.commands.proofs.Keeping.{none_kept}
 use Rattle.rules.specs.Rules.{Terms, account}
-use Rattle.service.specs.Opening.{terms, priced, opened}
+use Rattle.service.specs.Opening.{terms, priced}
 use Rattle.service.proofs.Opening.{cost_small, prices_decide, no_spending}
 use Rattle.service.proofs.service.Service.open.Goals as goal
 

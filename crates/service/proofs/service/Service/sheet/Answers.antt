@@ -1,5 +1,4 @@
-use Rattle.std.proofs.Common.{inl, inr}
-use Rattle.std.proofs.lemmas.Result.{err_from_is_err_and}
+use Rattle.std.proofs.Common.{inl}
 use Rattle.service.proofs.Sheets.{sheet_told}
 use Rattle.service.proofs.service.Service.sheet.Goals as goal
 

@@ -1,9 +1,7 @@
-use Rattle.std.proofs.Common.{◌≡◌, ◌+◌, ◌<◌, ◌≤◌, false, [], ◌∷◌, ◌++◌, length, get_or, vec_items, sym, refl, ap, ◌∙◌, arith}
+use Rattle.std.proofs.Common.{◌≡◌, ◌+◌, ◌<◌, false, [], ◌∷◌, ◌++◌, length, get_or, vec_items, sym, refl, ap, ◌∙◌, arith}
 use Rattle.std.proofs.lemmas.List.{length_push}
 use Rattle.design.specs.Meaning.{Meaning}
-use Rattle.symmetric.specs.Vectors.{held}
 use Rattle.service.specs.declared.account.Account.{Account}
-use Rattle.service.specs.Holds.{Accounted}
 use Rattle.service.specs.Opening.{terms}
 use Rattle.service.proofs.Prices.{priced_length}
 use Rattle.service.proofs.Opening.{found_told, never_refused, more_accounts, nothing_taken}
