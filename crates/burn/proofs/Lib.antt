@@ -9,4 +9,6 @@ pub mod Writes
 pub mod Sealed
 pub mod Accepted
 pub mod RoundTrip
+pub mod Scans
+pub mod Faults
 pub mod Laws

@@ -2,3 +2,4 @@
 pub mod Blocks
 pub mod Rules
 pub mod Files
+pub mod Faults

@@ -8,8 +8,10 @@ mod field;
 mod loading;
 mod rule;
 mod sheet;
+mod theorems;
 mod write;
 
 pub use entry::Entry;
 pub use loading::load;
 pub use sheet::Sheet;
+pub use theorems::faults_are_named;

@@ -1,0 +1,8 @@
+// A theorem on burn files: the function carries it on its contract, and does nothing.
+ghost use Rattle.burn.specs.Faults.{FaultLaws};
+
+pub fn faults_are_named() -> u8
+    ensures { FaultLaws }
+{
+    0
+}
