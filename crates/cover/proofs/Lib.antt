@@ -4,3 +4,4 @@ pub mod Reading
 pub mod Apart
 pub mod Tallies
 pub mod Asked
+pub mod Reasons

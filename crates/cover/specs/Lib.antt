@@ -2,5 +2,6 @@
 pub mod Cubes
 pub mod Tables
 pub mod Covers
+pub mod Reasons
 pub mod Theorems
 pub mod Figures

@@ -8,7 +8,9 @@ mod theorems;
 
 pub use cover::Cover;
 pub use cube::Cube;
-pub use theorems::{approximation_tallies, cubes_meet_in_a_row, small_cover_figures};
+pub use theorems::{
+    approximation_tallies, cubes_meet_in_a_row, openings_have_reasons, small_cover_figures,
+};
 
 #[cfg(test)]
 mod tests;

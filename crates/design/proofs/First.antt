@@ -31,7 +31,7 @@ module _ {R : Type 0} (passes : R → Bool) where
   says_later x xs None e f = λ outside k h. none_so_far x xs (length xs) e f outside k (omega arith)
 
   -- the first place found is the first place, and none found is none
-  first_place_says : (xs : List R) → Says passes xs (first_place passes xs)
+  pub first_place_says : (xs : List R) → Says passes xs (first_place passes xs)
   unfolding first_place
   first_place_says [] = λ outside k h. absurd (omega arith)
   first_place_says (x ∷ xs) = by (passes x) refl (first_place passes xs) (first_place_says xs)

@@ -6,3 +6,4 @@ pub mod Behind
 pub mod Counted
 pub mod Parts
 pub mod Roots
+pub mod Reasons

@@ -4,4 +4,5 @@ pub mod Rules
 pub mod Meaning
 pub mod Counting
 pub mod Figures
+pub mod Reasons
 pub mod Theorems

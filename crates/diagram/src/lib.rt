@@ -7,7 +7,7 @@ mod theorems;
 
 pub use node::Node;
 pub use table::Diagram;
-pub use theorems::{figure_holds, steps_suffice};
+pub use theorems::{buildings_have_reasons, figure_holds, steps_suffice};
 
 #[cfg(test)]
 mod tests;
