@@ -3,6 +3,7 @@
 
 mod compare;
 mod drawn;
+mod known;
 mod makes;
 mod sending;
 

@@ -33,14 +33,18 @@ unfolding sum_below
 costs_small zero f small = omega arith
 costs_small (suc k) f small = let ih = costs_small k f small in let s = small k in omega arith
 
--- so the prices alone decide
-pub prices_decide : (t : Terms) → Sound t.meaning → priced t.meaning.outputs t.prices ≡ Ok tt → opened t ≡ Ok tt
+-- so all of them together are sayable in 32 bits
+pub costs_sayable : (t : Terms) → Sound t.meaning → priced t.meaning.outputs t.prices ≡ Ok tt → costs_below t t.meaning.outputs ≤ 4294967295
 unfolding costs_below
-prices_decide t sound fine =
+costs_sayable t sound fine =
     let few = sound.few_outputs in
     let small = costs_small t.meaning.outputs (account t).cost (λ o. cost_small t o sound fine) in
-    let below : costs_below t t.meaning.outputs ≤ 4294967295 = omega arith in
-    rw fine (cond-false (ltb 4294967295 (costs_below t t.meaning.outputs)) (Err CostTooLarge) (Ok tt) (le-ltb _ _ below))
+    omega arith
+
+-- and the prices alone decide
+pub prices_decide : (t : Terms) → Sound t.meaning → priced t.meaning.outputs t.prices ≡ Ok tt → opened t ≡ Ok tt
+prices_decide t sound fine =
+    rw fine (cond-false (ltb 4294967295 (costs_below t t.meaning.outputs)) (Err CostTooLarge) (Ok tt) (le-ltb _ _ (costs_sayable t sound fine)))
 
 pub prices_refuse : (t : Terms) (why : Refusal) → priced t.meaning.outputs t.prices ≡ Err why → opened t ≡ Err why
 prices_refuse t why e = rw e refl

@@ -4,5 +4,6 @@ pub mod Numbers
 pub mod Holds
 pub mod Replies
 pub mod Opening
+pub mod Prices
 pub mod Sheets
 pub mod Runs

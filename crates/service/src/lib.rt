@@ -8,6 +8,8 @@ mod log;
 mod record;
 mod running;
 mod service;
+mod theorems;
 
 pub use running::run;
 pub use service::Service;
+pub use theorems::prices_are_judged;

@@ -1,0 +1,3 @@
+-- Lemmas on the known figures.
+pub mod Burnt
+pub mod Eight

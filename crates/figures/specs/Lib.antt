@@ -1,0 +1,3 @@
+-- The known figures.
+pub mod Cases
+pub mod Known

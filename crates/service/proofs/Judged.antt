@@ -1,0 +1,52 @@
+-- What passing or refusing a list of prices says of it.
+use Rattle.std.proofs.Common.{◌≡◌, ℕ, zero, suc, ◌+◌, ◌<◌, ◌≤◌, Bool, true, false, cond, ◌&&◌, ltb, leb, List, length, get_or, drop, Ok, Err, refl, ⊎_elim, arith}
+use Rattle.std.proofs.lemmas.Bool.{and_parts, and_cases, cases_lt, ltb-true, ltb-false, leb-true, leb-false}
+use Rattle.refusal.specs.declared.table.Refusal.TheVariants.{BadPrice}
+use Rattle.service.specs.Opening.{fair, priced_from, priced}
+use Rattle.service.specs.Prices.{FairAt, BadAt, BadAt.missing, BadAt.surplus, BadAt.zero_price, BadAt.above_255, PricedSays}
+use Rattle.service.proofs.Prices.{price_step, price_end}
+
+-- a position that was passed
+fair_told : (outputs : ℕ) (prices : List ℕ) (k : ℕ) → k < length prices → fair outputs k (get_or prices k 0) ≡ true → FairAt outputs prices k
+fair_told outputs prices k inside e =
+    let f = and_parts (ltb k outputs) (leb 1 (get_or prices k 0) && leb (get_or prices k 0) 255) e in
+    let q = and_parts (leb 1 (get_or prices k 0)) (leb (get_or prices k 0) 255) f.1 in
+    record { output = ltb-true _ _ f.0; given = inside; least = leb-true _ _ q.0; most = leb-true _ _ q.1 }
+
+-- and one that was refused
+bad_told : (outputs : ℕ) (prices : List ℕ) (k : ℕ) → k < length prices → fair outputs k (get_or prices k 0) ≡ false → BadAt outputs prices k
+bad_told outputs prices k inside e =
+    ⊎_elim
+    (λ out. surplus inside (ltb-false _ _ out))
+    (λ price. ⊎_elim
+    (λ low. let l = leb-false 1 (get_or prices k 0) low in zero_price inside (omega arith))
+    (λ high. above_255 inside (leb-false (get_or prices k 0) 255 high))
+    (and_cases (leb 1 (get_or prices k 0)) (leb (get_or prices k 0) 255) price))
+    (and_cases (ltb k outputs) (leb 1 (get_or prices k 0) && leb (get_or prices k 0) 255) e)
+
+-- what is said from a position on, where all before it are fair
+said_from : (outputs : ℕ) (prices : List ℕ) (left k : ℕ) → k + left ≡ length prices → k ≤ outputs → ((i : ℕ) → i < k → FairAt outputs prices i)
+    → PricedSays outputs prices (priced_from outputs k (drop k prices))
+said_from outputs prices zero k n few before = rw (price_end outputs prices k (omega arith)) (go (ltb k outputs) refl)
+  where
+    go : (short : Bool) → ltb k outputs ≡ short → PricedSays outputs prices (cond short (Err (BadPrice k)) (Ok tt))
+    go true s = record { position = k; names = refl; before = before; bad = missing (omega arith) (ltb-true _ _ s) }
+    go false s =
+        let enough = ltb-false k outputs s in
+        record { many = omega arith; each = λ i inside. before i (omega arith) }
+said_from outputs prices (suc left) k n few before =
+    rw (price_step outputs prices k (omega arith))
+    (go (fair outputs k (get_or prices k 0)) refl
+    (λ here. let l = here.output in said_from outputs prices left (k + 1) (omega arith) (omega arith) (more here)))
+  where
+    more : FairAt outputs prices k → (i : ℕ) → i < k + 1 → FairAt outputs prices i
+    more here i less = ⊎_elim (λ below. before i below) (λ above. let same : i ≡ k = omega arith in rw same here) (cases_lt i k)
+
+    go : (fits : Bool) → fair outputs k (get_or prices k 0) ≡ fits → (FairAt outputs prices k → PricedSays outputs prices (priced_from outputs (k + 1) (drop (k + 1) prices)))
+        → PricedSays outputs prices (cond fits (priced_from outputs (k + 1) (drop (k + 1) prices)) (Err (BadPrice k)))
+    go true f later = later (fair_told outputs prices k (omega arith) f)
+    go false f later = record { position = k; names = refl; before = before; bad = bad_told outputs prices k (omega arith) f }
+
+-- what passing or refusing the prices says
+pub priced_says : (outputs : ℕ) (prices : List ℕ) → PricedSays outputs prices (priced outputs prices)
+priced_says outputs prices = said_from outputs prices (length prices) 0 (omega arith) (omega arith) (λ i none. absurd (omega arith))
