@@ -315,3 +315,55 @@ fn a_sheet_is_refused_as_its_file_would_be(rt: HostRuntime) -> Result<(), Fail> 
     assert!(rt; sample(heap, u32::MAX).is_ok());
     Ok(())
 }
+
+fn entry(price: u8, vector: u32, wrong: u32) -> Entry {
+    Entry {
+        price,
+        taken: true,
+        vector,
+        wrong,
+    }
+}
+
+// The refusal of a sheet of these values, or none.
+fn refusal(
+    heap: Global,
+    limit: u32,
+    spent: u32,
+    entries: &[Entry],
+) -> Result<Option<Refusal>, Fail> {
+    Ok(Sheet::new(3, limit, spent, Vec::from_slice(heap, entries)?).err())
+}
+
+fn bad_field(block: u32, byte: u32) -> Option<Refusal> {
+    Some(Refusal::BadField { block, byte })
+}
+
+fn bad_cause(cause: u32) -> Option<Refusal> {
+    Some(Refusal::BadCause { cause })
+}
+
+#[test]
+fn the_refusal_names_the_field_or_the_cause(rt: HostRuntime) -> Result<(), Fail> {
+    let heap = rt.alloc();
+    let good = entry(3, 12, 1);
+    assert_eq!(rt; refusal(heap, 3, 0, &[])?, bad_field(0, 3));
+    assert_eq!(rt; refusal(heap, 99, 27, &[good; 9])?, bad_field(0, 3));
+    assert_eq!(rt; refusal(heap, 99, 24, &[good; 8])?, None);
+    assert_eq!(rt;
+        refusal(heap, 99, 6, &[good, entry(0, 12, 1)])?,
+        bad_field(2, 2)
+    );
+    assert_eq!(rt;
+        refusal(heap, 99, 6, &[good, entry(3, 16, 1)])?,
+        bad_field(2, 4)
+    );
+    assert_eq!(rt;
+        refusal(heap, 99, 6, &[good, entry(3, 12, 5)])?,
+        bad_field(2, 8)
+    );
+    assert_eq!(rt; refusal(heap, 3, 2, &[good])?, bad_cause(2));
+    assert_eq!(rt; refusal(heap, 2, 3, &[good])?, bad_cause(3));
+    assert_eq!(rt; refusal(heap, u32::MAX, 3, &[good])?, None);
+    Ok(())
+}
