@@ -1,0 +1,64 @@
+// What is rolled within a frame.
+ghost use Rattle.std.specs.Prelude.{◌≡◌, ◌-◌, ◌%◌, ◌<◌};
+
+use crate::dice::Dice;
+use crate::frame::Frame;
+
+impl Frame {
+    // The frame at a place of a list: 16 inputs at the first, one fewer at each next, and 16 again after 1.
+    pub(crate) fn at(dice: &mut Dice, place: u32) -> Frame
+        ensures { result.inputs ≡ 16 - place % 16 }
+    {
+        Frame {
+            inputs: 16 - place % 16,
+            outputs: 1 + dice.below(3),
+        }
+    }
+
+    // The same, of two outputs.
+    pub(crate) fn narrow(place: u32) -> Frame
+        ensures { result.inputs ≡ 16 - place % 16 }
+    {
+        Frame {
+            inputs: 16 - place % 16,
+            outputs: 2,
+        }
+    }
+
+    pub(crate) fn inputs(&self) -> u32
+        ensures { result ≡ self.now.inputs }
+    {
+        self.inputs
+    }
+
+    pub(crate) fn outputs(&self) -> u32
+        ensures { result ≡ self.now.outputs }
+    {
+        self.outputs
+    }
+
+    // Any output.
+    pub(crate) fn output(&self, dice: &mut Dice) -> u32
+        ensures { result < self.now.outputs }
+    {
+        dice.below(self.outputs)
+    }
+
+    // Any level of a node.
+    pub(crate) fn level(&self, dice: &mut Dice) -> u32
+        ensures { result < self.now.inputs }
+    {
+        dice.below(self.inputs)
+    }
+
+    // One input, as a set.
+    pub(crate) fn input(&self, dice: &mut Dice) -> u16 {
+        1 << dice.below(self.inputs)
+    }
+
+    // Any set of inputs.
+    pub(crate) fn set(&self, dice: &mut Dice) -> u16 {
+        let all = u16::MAX >> (16 - self.inputs);
+        dice.below(65536) as u16 & all
+    }
+}
