@@ -3,13 +3,11 @@
 
 # proves the listing program, builds it and lists the sample burn file
 run:
-	rt check listing
-	target/bin/listing < crates/listing/stdin
+	cd crates/listing && rt run < stdin
 
 # the same for one handover from a camera's tables to a burn file
 handover:
-	rt check handover
-	target/bin/handover
+	cd crates/handover && rt run
 
 # the gate
 test:
