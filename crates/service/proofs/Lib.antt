@@ -4,7 +4,6 @@ pub mod Obeying
 pub mod Flags
 pub mod Handing
 pub mod Prices
-pub mod Judged
 pub mod Opening
 pub mod Sheets
 pub mod Rooms

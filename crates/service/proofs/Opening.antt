@@ -25,7 +25,7 @@ cost_small t o sound fine =
     let light : t.meaning.inputs - 1 ≤ 15 = omega arith in
     let power : 2 ^ (t.meaning.inputs - 1) ≤ 2 ^ 15 = pow_mono light in
     let small : wrong t.meaning o ≤ 32768 = omega arith in
-    let m : get_or t.prices o 0 * wrong t.meaning o ≤ 255 * 32768 = mul-le-mul (priced_small _ _ _ fine o) small in
+    let m : get_or t.prices o 0 * wrong t.meaning o ≤ 255 * 32768 = mul-le-mul (priced_small _ _ fine o) small in
     omega arith
 
 costs_small : (k : ℕ) (f : ℕ → ℕ) → ((o : ℕ) → f o ≤ 8355840) → sum_below k f ≤ k * 8355840

@@ -1,10 +1,11 @@
--- The prices tried one after another.
-use Rattle.std.proofs.Common.{◌≡◌, ℕ, zero, suc, ◌+◌, ◌<◌, ◌≤◌, Bool, true, false, cond, ◌&&◌, ltb, leb, List, [], ◌∷◌, length, get_or, drop, Ok, Err, Result, sym, refl, ◌∙◌, arith}
-use Rattle.std.proofs.lemmas.List.{at_drop_more, at_drop_all}
-use Rattle.std.proofs.lemmas.Bool.{and_parts, cond-true, cond-false, ltb-true, ltb-false, leb-true}
+-- The prices tried one after another, and what passing or refusing them says.
+use Rattle.std.proofs.Common.{◌≡◌, ℕ, zero, suc, ◌+◌, ◌<◌, ◌≤◌, Bool, true, false, cond, ◌&&◌, ltb, leb, List, length, get_or, drop, Ok, Err, Result, refl, subst, ⊎_elim, arith}
+use Rattle.std.proofs.lemmas.List.{at_drop_more, at_drop_all, get_or_past}
+use Rattle.std.proofs.lemmas.Bool.{and_parts, and_cases, cases_lt, ltb-true, ltb-false, leb-true, leb-false}
 use Rattle.refusal.specs.declared.table.Refusal.{Refusal}
 use Rattle.refusal.specs.declared.table.Refusal.TheVariants.{BadPrice}
-use Rattle.service.specs.Opening.{fair, priced_from}
+use Rattle.service.specs.Opening.{fair, priced_from, priced}
+use Rattle.service.specs.Prices.{FairAt, AllFair, BadAt, BadAt.missing, BadAt.surplus, BadAt.zero_price, BadAt.above_255, PricedSays}
 
 pub price_step : (outputs : ℕ) (prices : List ℕ) (k : ℕ) → k < length prices
     → priced_from outputs k (drop k prices) ≡ cond (fair outputs k (get_or prices k 0)) (priced_from outputs (k + 1) (drop (k + 1) prices)) (Err (BadPrice k))
@@ -15,34 +16,57 @@ pub price_end : (outputs : ℕ) (prices : List ℕ) (k : ℕ) → length prices 
 unfolding priced_from
 price_end outputs prices k outside = at_drop_all (priced_from outputs k) prices k outside
 
-not_bad : (k : ℕ) → ◌≡◌ {A = Result (Unit {0}) Refusal} (Err (BadPrice k)) (Ok tt) → ⊥
-not_bad k e = let z : ◌≡◌ {A = ℕ} 0 1 = cc in omega arith
+-- a position that was passed
+fair_told : (outputs : ℕ) (prices : List ℕ) (k : ℕ) → k < length prices → fair outputs k (get_or prices k 0) ≡ true → FairAt outputs prices k
+fair_told outputs prices k inside e =
+    let f = and_parts (ltb k outputs) (leb 1 (get_or prices k 0) && leb (get_or prices k 0) 255) e in
+    let q = and_parts (leb 1 (get_or prices k 0)) (leb (get_or prices k 0) 255) f.1 in
+    record { output = ltb-true _ _ f.0; given = inside; least = leb-true _ _ q.0; most = leb-true _ _ q.1 }
 
--- prices that are not refused are one for each output
-pub priced_length : (outputs place : ℕ) (prices : List ℕ) → place ≤ outputs → priced_from outputs place prices ≡ Ok tt → place + length prices ≡ outputs
-unfolding priced_from
-priced_length outputs place [] few e = go (ltb place outputs) refl
-  where
-    go : (b : Bool) → ltb place outputs ≡ b → place + 0 ≡ outputs
-    go true i = absurd (not_bad place (sym (cond-true (ltb place outputs) (Err (BadPrice place)) (Ok tt) i) ∙ e))
-    go false i = let l = ltb-false _ _ i in omega arith
-priced_length outputs place (p ∷ later) few e = go (fair outputs place p) refl (λ l h. priced_length outputs (place + 1) later l h)
-  where
-    go : (b : Bool) → fair outputs place p ≡ b → (place + 1 ≤ outputs → priced_from outputs (place + 1) later ≡ Ok tt → (place + 1) + length later ≡ outputs)
-        → place + suc (length later) ≡ outputs
-    go true i more =
-        let l = ltb-true place outputs (and_parts (ltb place outputs) (leb 1 p && leb p 255) i).0 in
-        let ih = more (omega arith) (sym (cond-true (fair outputs place p) (priced_from outputs (place + 1) later) (Err (BadPrice place)) i) ∙ e) in
-        omega arith
-    go false i more = absurd (not_bad place (sym (cond-false (fair outputs place p) (priced_from outputs (place + 1) later) (Err (BadPrice place)) i) ∙ e))
+-- and one that was refused
+bad_told : (outputs : ℕ) (prices : List ℕ) (k : ℕ) → k < length prices → fair outputs k (get_or prices k 0) ≡ false → BadAt outputs prices k
+bad_told outputs prices k inside e =
+    ⊎_elim
+    (λ out. surplus inside (ltb-false _ _ out))
+    (λ price. ⊎_elim
+    (λ low. let l = leb-false 1 (get_or prices k 0) low in zero_price inside (omega arith))
+    (λ high. above_255 inside (leb-false (get_or prices k 0) 255 high))
+    (and_cases (leb 1 (get_or prices k 0)) (leb (get_or prices k 0) 255) price))
+    (and_cases (ltb k outputs) (leb 1 (get_or prices k 0) && leb (get_or prices k 0) 255) e)
 
--- and at most 255
-pub priced_small : (outputs place : ℕ) (prices : List ℕ) → priced_from outputs place prices ≡ Ok tt → (k : ℕ) → get_or prices k 0 ≤ 255
-unfolding priced_from
-priced_small outputs place [] e k = omega arith
-priced_small outputs place (p ∷ later) e k = go k (fair outputs place p) refl (λ h j. priced_small outputs (place + 1) later h j)
+-- what is said from a position on, where all before it are fair
+said_from : (outputs : ℕ) (prices : List ℕ) (left k : ℕ) → k + left ≡ length prices → k ≤ outputs → ((i : ℕ) → i < k → FairAt outputs prices i)
+    → PricedSays outputs prices (priced_from outputs k (drop k prices))
+said_from outputs prices zero k n few before = rw (price_end outputs prices k (omega arith)) (go (ltb k outputs) refl)
   where
-    go : (k : ℕ) (b : Bool) → fair outputs place p ≡ b → (priced_from outputs (place + 1) later ≡ Ok tt → (j : ℕ) → get_or later j 0 ≤ 255) → get_or (p ∷ later) k 0 ≤ 255
-    go k false i more = absurd (not_bad place (sym (cond-false (fair outputs place p) (priced_from outputs (place + 1) later) (Err (BadPrice place)) i) ∙ e))
-    go zero true i more = leb-true p 255 (and_parts (leb 1 p) (leb p 255) (and_parts (ltb place outputs) (leb 1 p && leb p 255) i).1).1
-    go (suc k) true i more = more (sym (cond-true (fair outputs place p) (priced_from outputs (place + 1) later) (Err (BadPrice place)) i) ∙ e) k
+    go : (short : Bool) → ltb k outputs ≡ short → PricedSays outputs prices (cond short (Err (BadPrice k)) (Ok tt))
+    go true s = record { position = k; names = refl; before = before; bad = missing (omega arith) (ltb-true _ _ s) }
+    go false s =
+        let enough = ltb-false k outputs s in
+        record { many = omega arith; each = λ i inside. before i (omega arith) }
+said_from outputs prices (suc left) k n few before =
+    rw (price_step outputs prices k (omega arith))
+    (go (fair outputs k (get_or prices k 0)) refl
+    (λ here. let l = here.output in said_from outputs prices left (k + 1) (omega arith) (omega arith) (more here)))
+  where
+    more : FairAt outputs prices k → (i : ℕ) → i < k + 1 → FairAt outputs prices i
+    more here i less = ⊎_elim (λ below. before i below) (λ above. let same : i ≡ k = omega arith in rw same here) (cases_lt i k)
+
+    go : (fits : Bool) → fair outputs k (get_or prices k 0) ≡ fits → (FairAt outputs prices k → PricedSays outputs prices (priced_from outputs (k + 1) (drop (k + 1) prices)))
+        → PricedSays outputs prices (cond fits (priced_from outputs (k + 1) (drop (k + 1) prices)) (Err (BadPrice k)))
+    go true f later = later (fair_told outputs prices k (omega arith) f)
+    go false f later = record { position = k; names = refl; before = before; bad = bad_told outputs prices k (omega arith) f }
+
+-- what passing or refusing the prices says
+pub priced_says : (outputs : ℕ) (prices : List ℕ) → PricedSays outputs prices (priced outputs prices)
+priced_says outputs prices = said_from outputs prices (length prices) 0 (omega arith) (omega arith) (λ i none. absurd (omega arith))
+
+-- prices that pass are fair
+pub passed_fair : (outputs : ℕ) (prices : List ℕ) → priced outputs prices ≡ Ok tt → AllFair outputs prices
+passed_fair outputs prices e = subst (λ (r : Result (Unit {0}) Refusal). PricedSays outputs prices r) e (priced_says outputs prices)
+
+-- nor is any past them above 255
+pub priced_small : (outputs : ℕ) (prices : List ℕ) → priced outputs prices ≡ Ok tt → (k : ℕ) → get_or prices k 0 ≤ 255
+priced_small outputs prices e k =
+    let f = passed_fair outputs prices e in
+    ⊎_elim (λ there. (f.each k (omega (arith, f.many))).most) (λ past. rw (get_or_past prices k 0 past) (omega arith)) (cases_lt k (length prices))

@@ -1,10 +1,9 @@
 -- The entries of a service keep the rules of a burn sheet.
-use Rattle.std.proofs.Common.{◌≡◌, ℕ, zero, suc, ◌+◌, ◌-◌, ◌/◌, ◌^◌, ◌<◌, ◌≤◌, min, Bool, true, false, cond, ◌&&◌, eqb, ltb, leb, List, [], ◌∷◌, ◌++◌, map, length, get_or, Ok, Err, vec_items, Result, sym, refl, ap, ◌∙◌, subst, ⊎_elim, add-zero, add_assoc, zero-add, arith}
+use Rattle.std.proofs.Common.{◌≡◌, ℕ, zero, suc, ◌+◌, ◌-◌, ◌/◌, ◌^◌, ◌<◌, ◌≤◌, min, Bool, true, cond, ◌&&◌, eqb, leb, List, [], ◌∷◌, ◌++◌, map, length, get_or, Ok, Err, vec_items, Result, sym, refl, ap, ◌∙◌, subst, ⊎_elim, add-zero, add_assoc, zero-add, arith}
 use native.Mathlib.Nat.{div-eq_of_lt}
 use Rattle.std.proofs.lemmas.List.{length_push, length-map, get_or-map, get_or_append_left, get_or_at, ext_get_or}
-use Rattle.std.proofs.lemmas.Bool.{eq-eqb, le-leb, leb-true, and_from, and_parts, cases_order}
+use Rattle.std.proofs.lemmas.Bool.{eq-eqb, le-leb, and_from, and_parts, cases_order}
 use Rattle.refusal.specs.declared.table.Refusal.{Refusal}
-use Rattle.refusal.specs.declared.table.Refusal.TheVariants.{BadPrice}
 use Rattle.rows.specs.Rows.{sum_below}
 use Rattle.design.specs.declared.size.Size.{Size}
 use Rattle.design.specs.Meaning.{Meaning, Sound, sized}
@@ -26,28 +25,13 @@ use Rattle.service.specs.declared.ledger.Ledger.{Ledger}
 use Rattle.service.specs.Books.{no_account}
 use Rattle.service.specs.declared.service.Service.{Service}
 use Rattle.service.specs.Holds.{Accounted, Booked, Holds}
-use Rattle.service.specs.Opening.{fair, priced_from, priced, costed, opened, costs_below as costs-below'}
-use Rattle.service.proofs.Prices.{priced_length, priced_small}
+use Rattle.service.specs.Opening.{priced, costed, opened, costs_below as all_costs}
+use Rattle.service.proofs.Prices.{passed_fair}
 use Rattle.service.specs.Sheets.{entry_of, entries_below, sheet_of, entry_from}
 
 -- each output has a price of 1 to 255
 abbrev Priced : Terms → Type 0
 Priced t = (o : ℕ) → o < t.meaning.outputs → (1 ≤ price t o) × (price t o ≤ 255)
-
--- a price that was passed
-passed_one : (fits : Bool) (why : Refusal) (rest : Result (Unit {0}) Refusal) → cond fits rest (Err why) ≡ Ok tt → (fits ≡ true) × (rest ≡ Ok tt)
-passed_one true why rest q = (refl, q)
-passed_one false why rest q = absurd (no_value q)
-
-passed_each : (outputs place : ℕ) (prices : List ℕ) → priced_from outputs place prices ≡ Ok tt → (k : ℕ) → k < length prices → 1 ≤ get_or prices k 0
-unfolding priced_from
-passed_each outputs place [] q k h = absurd (omega arith)
-passed_each outputs place (p ∷ later) q zero h =
-    let f = passed_one (fair outputs place p) (BadPrice place) (priced_from outputs (place + 1) later) q in
-    leb-true 1 p (and_parts (leb 1 p) (leb p 255) (and_parts (ltb place outputs) (leb 1 p && leb p 255) f.0).1).0
-passed_each outputs place (p ∷ later) q (suc k) h =
-    let f = passed_one (fair outputs place p) (BadPrice place) (priced_from outputs (place + 1) later) q in
-    passed_each outputs (place + 1) later f.1 k (omega arith)
 
 prices_passed : (r : Result (Unit {0}) Refusal) (total : ℕ) → costed r total ≡ Ok tt → r ≡ Ok tt
 prices_passed (Ok tt) total q = refl
@@ -55,9 +39,9 @@ prices_passed (Err why) total q = absurd (no_value q)
 
 opened_priced : (t : Terms) → opened t ≡ Ok tt → Priced t
 opened_priced t q o h =
-    let p = prices_passed (priced t.meaning.outputs t.prices) (costs-below' t t.meaning.outputs) q in
-    let l = priced_length t.meaning.outputs 0 t.prices (omega arith) p in
-    (passed_each t.meaning.outputs 0 t.prices p o (omega arith), priced_small t.meaning.outputs 0 t.prices p o)
+    let p = prices_passed (priced t.meaning.outputs t.prices) (all_costs t t.meaning.outputs) q in
+    let fair_here = (passed_fair t.meaning.outputs t.prices p).each o h in
+    (fair_here.least, fair_here.most)
 
 pub length_below : (t : Terms) (lines : List Line) (k : ℕ) → length (entries_below t lines k) ≡ k
 unfolding entries_below

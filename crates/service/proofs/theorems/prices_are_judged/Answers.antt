@@ -1,4 +1,4 @@
-use Rattle.service.proofs.Judged.{priced_says}
+use Rattle.service.proofs.Prices.{priced_says}
 use Rattle.service.proofs.Opening.{costs_sayable}
 use Rattle.service.proofs.theorems.prices_are_judged.Goals as goal
 

@@ -3,21 +3,21 @@ use Rattle.std.proofs.lemmas.List.{length_push}
 use Rattle.design.specs.Meaning.{Meaning}
 use Rattle.service.specs.declared.account.Account.{Account}
 use Rattle.service.specs.Opening.{terms}
-use Rattle.service.proofs.Prices.{priced_length}
+use Rattle.service.proofs.Prices.{passed_fair}
 use Rattle.service.proofs.Opening.{found_told, never_refused, more_accounts, nothing_taken}
 use Rattle.service.proofs.service.open.open_accounts.Goals as goal
 
 pub overflow_cast-output : goal.overflow_cast-output
 overflow_cast-output g c =
     let m : Meaning = g.D.Design.meaning c.args.design.now in
-    let n = priced_length m.outputs 0 c.args.prices.now (omega arith) c.requires in
+    let n = (passed_fair m.outputs c.args.prices.now c.requires).many in
     let few = (g.met.D.Design.sound c.args.design.now).few_outputs in
     omega arith
 
 pub push_reserved-requires : goal.push_reserved-requires
 push_reserved-requires g c =
     let m : Meaning = g.D.Design.meaning c.args.design.now in
-    let n = priced_length m.outputs 0 c.args.prices.now (omega arith) c.requires in
+    let n = (passed_fair m.outputs c.args.prices.now c.requires).many in
     let few = (g.met.D.Design.sound c.args.design.now).few_outputs in
     let cap = c.loop-output.invariant.0 in
     let count = c.loop-output.invariant.1 in
@@ -26,14 +26,14 @@ push_reserved-requires g c =
 pub returns-in_err-vector : goal.returns-in_err-vector
 returns-in_err-vector g c =
     let m : Meaning = g.D.Design.meaning c.args.design.now in
-    let n = priced_length m.outputs 0 c.args.prices.now (omega arith) c.requires in
+    let n = (passed_fair m.outputs c.args.prices.now c.requires).many in
     let inside : c.loop-output.output < m.outputs = omega arith in
     absurd (never_refused m c.loop-output.output c.in_err-vector.field-0.0 inside c.in_err-vector.ensures.answer)
 
 pub loop-output-preserved : goal.loop-output-preserved
 loop-output-preserved g c =
     let m : Meaning = g.D.Design.meaning c.args.design.now in
-    let n = priced_length m.outputs 0 c.args.prices.now (omega arith) c.requires in
+    let n = (passed_fair m.outputs c.args.prices.now c.requires).many in
     let inside : c.loop-output.output < m.outputs = omega arith in
     let found = found_told m c.loop-output.output c.in_ok-vector.field-0 inside c.in_ok-vector.ensures.answer in
     let a : Account = record { price = get_or c.args.prices.now c.loop-output.output 0; vector = c.in_ok-vector.field-0.vector; wrong = c.in_ok-vector.field-0.wrong; taken = false } in
@@ -59,7 +59,7 @@ loop-output-preserved g c =
 pub returns : goal.returns
 returns g c =
     let m : Meaning = g.D.Design.meaning c.args.design.now in
-    let n = priced_length m.outputs 0 c.args.prices.now (omega arith) c.requires in
+    let n = (passed_fair m.outputs c.args.prices.now c.requires).many in
     let count = c.loop-output.invariant.1 in
     let end : c.loop-output.output ≡ m.outputs = omega arith in
     record {
