@@ -82,48 +82,30 @@ pub fn read_head(block: &[u8]) -> Result<Head, Refusal>
 }
 
 // The block of an output: price, taken, value vector, wrong count.
-pub fn read_entry(block: &[u8], number: u32, inputs: u32) -> Result<Entry, Refusal>
-    requires { (length block.now ≡ 512) × ((1 ≤ inputs) × (inputs ≤ 16)) }
-    ensures { result ≡ entry_read inputs number block.now }
+pub fn read_entry(bytes: &[u8], block: u32, inputs: u32) -> Result<Entry, Refusal>
+    requires { (length bytes.now ≡ 512) × ((1 ≤ inputs) × (inputs ≤ 16)) }
+    ensures { result ≡ entry_read inputs block bytes.now }
 {
-    let fields = open(block)?;
+    let fields = open(bytes)?;
     if fields.kind != 2 {
-        return Err(Refusal::BadField {
-            block: number,
-            byte: 0,
-        });
+        return Err(Refusal::BadField { block, byte: 0 });
     }
-    if u32::from(fields.number) != number {
-        return Err(Refusal::BadField {
-            block: number,
-            byte: 1,
-        });
+    if u32::from(fields.number) != block {
+        return Err(Refusal::BadField { block, byte: 1 });
     }
     if fields.first < 1 {
-        return Err(Refusal::BadField {
-            block: number,
-            byte: 2,
-        });
+        return Err(Refusal::BadField { block, byte: 2 });
     }
     if fields.second > 1 {
-        return Err(Refusal::BadField {
-            block: number,
-            byte: 3,
-        });
+        return Err(Refusal::BadField { block, byte: 3 });
     }
     if !vector_fits(inputs, fields.low) {
-        return Err(Refusal::BadField {
-            block: number,
-            byte: 4,
-        });
+        return Err(Refusal::BadField { block, byte: 4 });
     }
     if !wrong_fits(inputs, fields.high) {
-        return Err(Refusal::BadField {
-            block: number,
-            byte: 8,
-        });
+        return Err(Refusal::BadField { block, byte: 8 });
     }
-    check_padding(block, number)?;
+    check_padding(bytes, block)?;
     Ok(Entry {
         price: fields.first,
         taken: fields.second == 1,

@@ -15,10 +15,11 @@ single limit = record { outputs = 1; cost = λ _. 3; limit = limit }
 abbrev pub double : Account
 double = record { outputs = 2; cost = λ o. cond (o == 0) 3 5; limit = 7 }
 
--- a take of an output under a number, and a back
+-- a take of an output under a number
 abbrev pub take : ℕ → ℕ → Sent
 take number o = record { number = number; command = Take o }
 
+-- a back of one
 abbrev pub back : ℕ → ℕ → Sent
 back number o = record { number = number; command = Back o }
 

@@ -4,9 +4,11 @@ use Rattle.std.specs.Prelude.{◌≡◌, ℕ, [], ◌∷◌}
 use Rattle.diagram.specs.declared.node.Node.{Node}
 use Rattle.drawing.specs.Pieces.{drawn}
 
+-- a node
 abbrev node : ℕ → ℕ → ℕ → Node
 node level low high = record { level = level; low = low; high = high }
 
+-- the drawings of three vectors
 pub record FiguresDrawn : Type 0 where
   -- three inputs, one where at least two are one
   pub majority : drawn 3 12 ≡ record { nodes = node 2 0 1 ∷ node 1 0 3 ∷ node 1 3 1 ∷ node 0 4 5 ∷ []; root = 6 }

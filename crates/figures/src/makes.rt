@@ -160,25 +160,24 @@ pub fn blocks(heap: Global) -> anyhow::Result<Cover> {
     told(fixed_blocks(heap))
 }
 
-// One cube for each row of four inputs that is listed.
+// Adds a cube of this kind for each row of four inputs that is listed.
+fn add_rows(cubes: &mut Vec<Cube>, kind: u32, rows: &[u16]) -> Result<(), Refusal> {
+    for row in rows {
+        cubes.push(Cube {
+            output: 0,
+            kind,
+            fixed: 15,
+            value: *row,
+        })?;
+    }
+    Ok(())
+}
+
+// The rows that are on, and those that are free.
 fn by_rows(heap: Global, on: &[u16], free: &[u16]) -> Result<Cover, Refusal> {
     let mut cubes = Vec::new(heap);
-    for row in on {
-        cubes.push(Cube {
-            output: 0,
-            kind: 1,
-            fixed: 15,
-            value: *row,
-        })?;
-    }
-    for row in free {
-        cubes.push(Cube {
-            output: 0,
-            kind: 2,
-            fixed: 15,
-            value: *row,
-        })?;
-    }
+    add_rows(&mut cubes, 1, on)?;
+    add_rows(&mut cubes, 2, free)?;
     Cover::new(4, 1, cubes)
 }
 

@@ -31,56 +31,58 @@ pub fn camera_of(heap: Global) -> anyhow::Result<Camera> {
     ))
 }
 
+// The calls of the whole list.
+const CALLS: [Call; 14] = [
+    Call::Show { output: 0 },
+    Call::Show { output: 1 },
+    Call::Read {
+        output: 0,
+        row: 146,
+    },
+    Call::Take {
+        number: 1,
+        output: 0,
+    },
+    Call::Read {
+        output: 0,
+        row: 146,
+    },
+    Call::Take {
+        number: 2,
+        output: 1,
+    },
+    Call::Back {
+        number: 3,
+        output: 0,
+    },
+    Call::Take {
+        number: 1,
+        output: 0,
+    },
+    Call::Ask,
+    Call::Draw {
+        output: 0,
+        room: 136,
+    },
+    Call::Take {
+        number: 4,
+        output: 1,
+    },
+    Call::Draw {
+        output: 1,
+        room: 28,
+    },
+    Call::Draw {
+        output: 1,
+        room: 29,
+    },
+    Call::Ask,
+];
+
 // The whole list through one call.
 pub fn run_all(rt: &HostRuntime) -> anyhow::Result<()> {
-    let calls = [
-        Call::Show { output: 0 },
-        Call::Show { output: 1 },
-        Call::Read {
-            output: 0,
-            row: 146,
-        },
-        Call::Take {
-            number: 1,
-            output: 0,
-        },
-        Call::Read {
-            output: 0,
-            row: 146,
-        },
-        Call::Take {
-            number: 2,
-            output: 1,
-        },
-        Call::Back {
-            number: 3,
-            output: 0,
-        },
-        Call::Take {
-            number: 1,
-            output: 0,
-        },
-        Call::Ask,
-        Call::Draw {
-            output: 0,
-            room: 136,
-        },
-        Call::Take {
-            number: 4,
-            output: 1,
-        },
-        Call::Draw {
-            output: 1,
-            room: 28,
-        },
-        Call::Draw {
-            output: 1,
-            room: 29,
-        },
-        Call::Ask,
-    ];
-    let replies = expected(run(rt.alloc(), camera_of(rt.alloc())?, LIMIT, &PRICES, &calls))?;
-    for (call, reply) in calls.iter().zip(replies.iter()) {
+    let replies = expected(run(rt.alloc(), camera_of(rt.alloc())?, LIMIT, &PRICES, &CALLS))?;
+    for (call, reply) in CALLS.iter().zip(replies.iter()) {
         words::say_call(rt, *call)?;
         words::say_reply(rt, reply)?;
     }

@@ -49,11 +49,12 @@ pub record Heard : Type 0 where
 abbrev pub hears : Terms → List Line → Call → Heard
 hears t log c = record { before = log; made = c; said = reply t log c; next = reply t (logs t log c) }
 
--- the transcript of some calls, from a log, and from the opening
+-- the transcript of some calls, from a log
 unfoldable pub heard_from : Terms → List Line → List Call → List Heard
 heard_from t log [] = []
 heard_from t log (c ∷ later) = hears t log c ∷ heard_from t (logs t log c) later
 
+-- and from the opening
 abbrev pub heard : Terms → List Call → List Heard
 heard t calls = heard_from t [] calls
 

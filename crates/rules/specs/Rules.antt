@@ -75,19 +75,21 @@ logs t lines (call.Show o) = lines
 logs t lines (call.Read o r) = lines
 logs t lines (call.Draw o room) = lines
 
--- the log after some calls, from a log, and from the opening
+-- the log after some calls, from a log
 unfoldable pub lines_from : Terms → List Line → List Call → List Line
 lines_from t lines [] = lines
 lines_from t lines (c ∷ later) = lines_from t (logs t lines c) later
 
+-- and from the opening
 abbrev pub lines : Terms → List Call → List Line
 lines t calls = lines_from t [] calls
 
--- the replies to some calls, from a log, and from the opening
+-- the replies to some calls, from a log
 unfoldable pub replies_from : Terms → List Line → List Call → List Said
 replies_from t lines [] = []
 replies_from t lines (c ∷ later) = reply t lines c ∷ replies_from t (logs t lines c) later
 
+-- and from the opening
 abbrev pub replies : Terms → List Call → List Said
 replies t calls = replies_from t [] calls
 

@@ -41,18 +41,20 @@ take_answer ledger o =
     (Refused (OverLimit (min (ledger.spent + cost (account_of ledger o) - ledger.limit) 4294967295)))))
     (Refused NoOutput)
 
+-- the ways of a back: a refusal, or the new spent figure
 abbrev pub back_answer : Ledger → ℕ → Answer
 back_answer ledger o =
     cond (nat_lt o (length (vec_items ledger.accounts)))
     (cond (account_of ledger o).taken (PutBack (ledger.spent - cost (account_of ledger o))) (Refused NotTaken))
     (Refused NoOutput)
 
--- the accounts and the spent figure after an answer
+-- the accounts after an answer
 abbrev pub accounts_after : Ledger → ℕ → Answer → List Account
 accounts_after ledger o (Taken s) = with_taken ledger o true
 accounts_after ledger o (PutBack s) = with_taken ledger o false
 accounts_after ledger o (Refused r) = vec_items ledger.accounts
 
+-- the spent figure after it
 abbrev pub spent_after : Ledger → Answer → ℕ
 spent_after ledger (Taken s) = s
 spent_after ledger (PutBack s) = s

@@ -19,6 +19,7 @@ unfoldable pub priced_from : ℕ → ℕ → List ℕ → Result (Unit {0}) Refu
 priced_from outputs position [] = cond (nat_lt position outputs) (Err (BadPrice position)) (Ok tt)
 priced_from outputs position (p ∷ later) = cond (fair outputs position p) (priced_from outputs (position + 1) later) (Err (BadPrice position))
 
+-- all prices, from position 0 on
 abbrev pub priced : ℕ → List ℕ → Result (Unit {0}) Refusal
 priced outputs prices = priced_from outputs 0 prices
 

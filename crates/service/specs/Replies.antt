@@ -16,18 +16,21 @@ use Rattle.rules.specs.Rules.{Terms, Said, asked, shown, marks, draws, refused, 
 use Rattle.service.specs.declared.service.Service.{Service}
 use Rattle.service.specs.Holds.{Holds}
 
--- what ask, show, read and draw say; a draw says the nodes in front of the buffer
+-- what ask says
 abbrev pub said_asked : Asked → Said
 said_asked a = asked a.limit a.spent a.lines a.taken
 
+-- what show says
 abbrev pub said_shown : Result Shown Refusal → Said
 said_shown (Ok s) = shown s.vector s.wrong
 said_shown (Err why) = refused why
 
+-- what read says
 abbrev pub said_mark : Result Mark Refusal → Said
 said_mark (Ok mark) = marks mark
 said_mark (Err why) = refused why
 
+-- what draw says: the root, and the nodes in front of the buffer
 abbrev pub said_drawn : Result Drawn Refusal → List Node → Said
 said_drawn (Ok d) buffer = draws d.root (take d.count buffer)
 said_drawn (Err why) buffer = refused why
@@ -40,5 +43,6 @@ Replied means call service said = (t : Terms) (lines : List Line) → Holds mean
 abbrev pub lent_after : Terms → List Line → ℕ → List Node → List Node
 lent_after t lines o buffer = cond (nat_lt o t.meaning.outputs) (cond (taken lines o) (drawn_over (drawing t o) buffer) buffer) buffer
 
+-- a draw on a service that stands as the rules have it leaves the buffer so
 abbrev pub DrawnByRules : {D : Type 0} → (D → Meaning) → ℕ → Service D → List Node → List Node → Type 0
 DrawnByRules means o service buffer after = (t : Terms) (lines : List Line) → Holds means t lines service → after ≡ lent_after t lines o buffer
