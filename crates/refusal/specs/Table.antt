@@ -1,6 +1,8 @@
 -- Each refusal's number and values, for every contract that names one.
 -- The numbers and the order of the values are those that programs print.
 use Rattle.std.specs.Prelude.{ℕ, List, [], ◌∷◌}
+use Rattle.refusal.specs.declared.table.Cause.{Cause}
+use Rattle.refusal.specs.declared.table.Cause.TheVariants.{Blocks, Spent, Limit}
 use Rattle.refusal.specs.declared.table.Refusal.{Refusal}
 use Rattle.refusal.specs.declared.table.Refusal.TheVariants.{Inputs, Outputs, TooMany, BadCube, CubesMeet, BadNode, NoOutput, NoRow, NoWeight, RootCount, BadRoot, InputsDiffer, CostTooLarge, Gap, NumberUsed, LogFull, BadPrice, AlreadyTaken, NotTaken, OverLimit, NodesShort, FileLength, BlockSum, BadField, BadCause, BufferShort, NoMemory}
 
@@ -34,6 +36,12 @@ number (BadCause cause) = 25
 number (BufferShort len) = 26
 number NoMemory = 0
 
+-- the number of a rule that the fields of a file break together
+abbrev pub cause_number : Cause → ℕ
+cause_number Blocks = 1
+cause_number Spent = 2
+cause_number Limit = 3
+
 -- the values that come with the number, in their order
 abbrev pub values : Refusal → List ℕ
 values Inputs = []
@@ -60,7 +68,7 @@ values (NodesShort count) = count ∷ []
 values FileLength = []
 values (BlockSum block) = block ∷ []
 values (BadField block byte) = block ∷ byte ∷ []
-values (BadCause cause) = cause ∷ []
+values (BadCause cause) = cause_number cause ∷ []
 values (BufferShort len) = len ∷ []
 values NoMemory = []
 

@@ -1,8 +1,6 @@
 -- Numbers as text, blanks between, for what a program prints of a refusal.
 -- Assumes nothing.
 use Rattle.std.specs.Prelude.{ℕ, List, [], ◌∷◌, ◌++◌, decimal}
-use Rattle.refusal.specs.declared.table.Values.{Values}
-use Rattle.refusal.specs.declared.table.Values.TheVariants.{Nothing, One, Pair}
 
 -- each number in decimal behind a blank
 abbrev pub blanked : List ℕ → List ℕ
@@ -13,9 +11,3 @@ blanked (x ∷ xs) = 32 ∷ (decimal x ++ blanked xs)
 abbrev pub text : List ℕ → List ℕ
 text [] = []
 text (x ∷ xs) = decimal x ++ blanked xs
-
--- the values as a list
-abbrev pub listed : Values → List ℕ
-listed Nothing = []
-listed (One first) = first ∷ []
-listed (Pair first second) = first ∷ second ∷ []

@@ -4,7 +4,7 @@
 mod show;
 mod table;
 
-pub use table::Refusal;
+pub use table::{Cause, Refusal};
 
 #[cfg(test)]
 mod tests {
@@ -17,9 +17,12 @@ mod tests {
         let none = Refusal::FileLength.to_string(heap)?;
         let one = Refusal::Gap { next: 257 }.to_string(heap)?;
         let two = Refusal::BadField { block: 1, byte: 3 }.to_string(heap)?;
+        let cause = Cause::Spent;
+        let kind = Refusal::BadCause { cause }.to_string(heap)?;
         assert!(rt; none.as_str() == "22");
         assert!(rt; one.as_str() == "14 257");
         assert!(rt; two.as_str() == "24 1 3");
+        assert!(rt; kind.as_str() == "25 2");
         Ok(())
     }
 }

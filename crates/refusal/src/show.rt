@@ -1,11 +1,12 @@
-// The number of a refusal, its values, and its text.
+// The number of a refusal, and its text.
 ghost use Rattle.std.specs.Prelude.{◌≡◌, Some};
 ghost use Rattle.refusal.specs.declared.table.Refusal.TheVariants.{NoMemory};
-ghost use Rattle.refusal.specs.Table.{number, values, told};
-ghost use Rattle.refusal.specs.Text.{listed, text};
+ghost use Rattle.refusal.specs.Table.{number, cause_number, told};
+ghost use Rattle.refusal.specs.Text.{text};
 
-use crate::table::{Refusal, Values};
+use crate::table::{Cause, Refusal};
 use std::alloc::{AllocError, AllocFailed};
+use std::error::Error;
 use std::fmt;
 
 impl Refusal {
@@ -43,34 +44,6 @@ impl Refusal {
             Refusal::NoMemory => 0,
         }
     }
-
-    // The values that it carries, in their order.
-    fn values(&self) -> Values
-        ensures { listed result ≡ values self.now }
-    {
-        match *self {
-            Refusal::TooMany { count } => Values::One(count as u64),
-            Refusal::BadCube { place } => Values::One(place as u64),
-            Refusal::CubesMeet { place, earlier } => Values::Pair(place as u64, earlier as u64),
-            Refusal::BadNode { place } => Values::One(place as u64),
-            Refusal::RootCount { length } => Values::One(length as u64),
-            Refusal::BadRoot { output } => Values::One(output as u64),
-            Refusal::InputsDiffer { first, second } => Values::Pair(
-                u64::from(first),
-                u64::from(second),
-            ),
-            Refusal::Gap { next } => Values::One(u64::from(next)),
-            Refusal::NumberUsed { number } => Values::One(u64::from(number)),
-            Refusal::BadPrice { position } => Values::One(position as u64),
-            Refusal::OverLimit { excess } => Values::One(u64::from(excess)),
-            Refusal::NodesShort { count } => Values::One(count as u64),
-            Refusal::BlockSum { block } => Values::One(u64::from(block)),
-            Refusal::BadField { block, byte } => Values::Pair(u64::from(block), u64::from(byte)),
-            Refusal::BadCause { cause } => Values::One(u64::from(cause)),
-            Refusal::BufferShort { length } => Values::One(length as u64),
-            _ => Values::Nothing,
-        }
-    }
 }
 
 // The number, then the values, blanks between.
@@ -79,10 +52,40 @@ impl fmt::Display for Refusal {
 
     fn fmt<W: fmt::Write>(&self, f: &mut fmt::Formatter<W>) -> fmt::Result {
         let number = self.number();
-        match self.values() {
-            Values::Nothing => write!(f, "{number}"),
-            Values::One(first) => write!(f, "{number} {first}"),
-            Values::Pair(first, second) => write!(f, "{number} {first} {second}"),
+        match *self {
+            Refusal::TooMany { count: value }
+            | Refusal::BadCube { place: value }
+            | Refusal::BadNode { place: value }
+            | Refusal::RootCount { length: value }
+            | Refusal::BadRoot { output: value }
+            | Refusal::BadPrice { position: value }
+            | Refusal::NodesShort { count: value }
+            | Refusal::BufferShort { length: value } => write!(f, "{number} {value}"),
+            Refusal::NumberUsed { number: value }
+            | Refusal::Gap { next: value }
+            | Refusal::OverLimit { excess: value }
+            | Refusal::BlockSum { block: value } => write!(f, "{number} {value}"),
+            Refusal::BadCause { cause } => write!(f, "{number} {}", u32::from(cause)),
+            Refusal::CubesMeet { place, earlier } => write!(f, "{number} {place} {earlier}"),
+            Refusal::InputsDiffer { first, second } => write!(f, "{number} {first} {second}"),
+            Refusal::BadField { block, byte } => write!(f, "{number} {block} {byte}"),
+            _ => write!(f, "{number}"),
+        }
+    }
+}
+
+// A refusal goes by `?` where any error may.
+impl Error for Refusal {}
+
+// The number of a cause in the table.
+impl From<Cause> for u32 {
+    ghost from_gives = { λ cause n. n ≡ cause_number cause };
+
+    fn from(cause: Cause) -> u32 {
+        match cause {
+            Cause::Blocks => 1,
+            Cause::Spent => 2,
+            Cause::Limit => 3,
         }
     }
 }

@@ -51,18 +51,21 @@ pub enum Refusal {
     BlockSum { block: u32 },
     // the lowest field that breaks its rule: its block and first byte
     BadField { block: u32, byte: u32 },
-    // the lowest cause that the fields break together
-    BadCause { cause: u32 },
+    // the first rule that the fields break together
+    BadCause { cause: Cause },
     // the byte buffer is shorter than the file
     BufferShort { length: usize },
     // there was no memory; this one stands outside the table
     NoMemory,
 }
 
-// The values that a refusal carries: none, one or two.
-#[derive(Clone, Copy)]
-pub enum Values {
-    Nothing,
-    One(u64),
-    Pair(u64, u64),
+// The rules that the fields of a burn file can break together, in the order of their numbers.
+#[derive(Clone, Copy, PartialEq, Eq, Debug)]
+pub enum Cause {
+    // the outputs told are not as many as the blocks after the first
+    Blocks,
+    // the spent figure is not what the taken outputs cost
+    Spent,
+    // the spent figure passes the limit
+    Limit,
 }
