@@ -1,6 +1,6 @@
--- The first place at which a test passes: what an answer says, and one step of the search.
-use Rattle.std.proofs.Common.{◌≡◌, ℕ, zero, suc, ◌+◌, ◌<◌, ◌≤◌, Bool, true, false, cond, List, [], ◌∷◌, length, get_or, drop, Some, None, Option, sym, refl, ap, ◌∙◌, subst, add-zero, add-one, arith}
-use Rattle.std.proofs.lemmas.List.{at_drop_more, at_drop_all}
+-- The first place at which a test passes: what an answer says, and the library's search for it.
+use Rattle.std.proofs.Common.{◌≡◌, ℕ, zero, suc, ◌+◌, ◌<◌, Bool, true, false, cond, List, [], ◌∷◌, length, get_or, Some, None, Option, sym, refl, ap, ◌∙◌, add-zero, add-one, arith}
+use Rattle.std.specs.List.{position_from}
 use Rattle.design.specs.Search.{later, first_place, Says}
 
 -- a place counted from i on
@@ -40,38 +40,15 @@ module _ {R : Type 0} (passes : R → Bool) where
       by true e o f = record { within = omega arith; here = λ outside. e; before = λ outside k h. absurd (omega arith) }
       by false e o f = says_later x xs o e f
 
-module _ {R : Type 0} (passes : R → Bool) (xs : List R) where
-  -- at place i, with none before: what is left of the list, its places counted from i, gives the answer
-  abbrev pub Searched : ℕ → Type 0
-  Searched i = moved i (first_place passes (drop i xs)) ≡ first_place passes xs
-
-  pub searched_none : Searched 0
-  searched_none = moved_none (first_place passes xs)
-
-  -- an answer and what it says
-  abbrev pub Told : Option ℕ → Type 0
-  Told o = (o ≡ first_place passes xs) × Says passes xs o
-
-  told : (o : Option ℕ) → o ≡ first_place passes xs → Told o
-  told o e = (e, subst (Says passes xs) (sym e) (first_place_says passes xs))
-
-  pub told_none : (i : ℕ) → length xs ≤ i → Searched i → Told None
+  found_from : (i : ℕ) (xs : List R) → position_from passes i xs ≡ moved i (first_place passes xs)
   unfolding first_place
-  told_none i h so = told None (sym (at_drop_all (λ ys. moved i (first_place passes ys)) xs i h) ∙ so)
+  found_from i [] = refl
+  found_from i (x ∷ xs) = by (passes x) (found_from (i + 1) xs)
+    where
+      by : (t : Bool) → position_from passes (i + 1) xs ≡ moved (i + 1) (first_place passes xs) → cond t (Some i) (position_from passes (i + 1) xs) ≡ moved i (cond t (Some 0) (later (first_place passes xs)))
+      by true e = rw add-zero
+      by false e = e ∙ sym (moved_later i (first_place passes xs))
 
-  -- x stands at place i
-  module _ (i : ℕ) (x : R) (h : i < length xs) (here : x ≡ get_or xs i x) where
-    looked : (t : Bool) → t ≡ passes x → moved i (first_place passes (drop i xs)) ≡ cond t (Some i) (moved (i + 1) (first_place passes (drop (i + 1) xs)))
-    unfolding first_place
-    looked t p =
-        at_drop_more (λ ys. moved i (first_place passes ys)) xs i x h ∙ ap (λ y. moved i (cond (passes y) (Some 0) (later (first_place passes (drop (i + 1) xs))))) (sym here) ∙ by (passes x) p (first_place passes (drop (i + 1) xs))
-      where
-        by : (s : Bool) → t ≡ s → (o : Option ℕ) → moved i (cond s (Some 0) (later o)) ≡ cond t (Some i) (moved (i + 1) o)
-        by true q o = rw (q, add-zero)
-        by false q o = rw q (moved_later i o)
-
-    pub searched_more : false ≡ passes x → Searched i → Searched (i + 1)
-    searched_more p so = sym (looked false p) ∙ so
-
-    pub told_found : true ≡ passes x → Searched i → Told (Some i)
-    told_found p so = told (Some i) (sym (looked true p) ∙ so)
+  -- the library's search finds the first place
+  pub found_first : (xs : List R) → position_from passes 0 xs ≡ first_place passes xs
+  found_first xs = found_from 0 xs ∙ moved_none (first_place passes xs)

@@ -1,6 +1,6 @@
 -- Tables checked before they are used, for whoever builds one: the sizes, and lists element by element.
 -- Places count from 0.
-use Rattle.std.specs.Prelude.{◌≡◌, ℕ, ◌<◌, ◌≤◌, Bool, true, false, ◌⊎◌, List, length, Ok, Err, Result, slice_index_or}
+use Rattle.std.specs.Prelude.{◌≡◌, ℕ, ◌<◌, ◌≤◌, Bool, true, false, cond, ◌&&◌, ◌⊎◌, List, length, Ok, Err, Result, slice_index_or, nat_le}
 use Rattle.refusal.specs.declared.table.Refusal.{Refusal}
 use Rattle.refusal.specs.declared.table.Refusal.TheVariants.{Inputs, Outputs, TooMany}
 
@@ -32,3 +32,10 @@ pub data BadSize (inputs outputs count : ℕ) : Refusal → Type 0 where
   bad_inputs : (inputs < 1) ⊎ (16 < inputs) → BadSize inputs outputs count Inputs
   bad_outputs : 1 ≤ inputs → inputs ≤ 16 → (outputs < 1) ⊎ (8 < outputs) → BadSize inputs outputs count Outputs
   too_many : 1 ≤ inputs → inputs ≤ 16 → 1 ≤ outputs → outputs ≤ 8 → 4096 < count → BadSize inputs outputs count (TooMany count)
+
+-- what the check of the sizes answers: 1 to 16 inputs, 1 to 8 outputs, at most 4,096 cubes or nodes
+abbrev pub sizes : ℕ → ℕ → ℕ → Result (Unit {0}) Refusal
+sizes inputs outputs count =
+    cond (nat_le 1 inputs && nat_le inputs 16)
+    (cond (nat_le 1 outputs && nat_le outputs 8) (cond (nat_le count 4096) (Ok tt) (Err (TooMany count))) (Err Outputs))
+    (Err Inputs)

@@ -2,6 +2,7 @@
 // search for the first record that meets another.
 #![tactic(auto)]
 
+mod check;
 mod design;
 mod joined;
 mod mark;
@@ -10,6 +11,7 @@ mod search;
 mod size;
 mod theorems;
 
+pub use check::check_sizes;
 pub use design::Design;
 pub use joined::Joined;
 pub use mark::Mark;

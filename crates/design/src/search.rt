@@ -15,10 +15,5 @@ pub fn first_meeting<R: Record>(records: &[R], wanted: &R) -> Option<usize>
     ensures answer { result ≡ first_place (λ x. R.meets x wanted.now) records.now }
     ensures first { Says (λ x. R.meets x wanted.now) records.now result }
 {
-    for (place, one) in records.iter().enumerate() {
-        if one.meets(wanted) {
-            return Some(place);
-        }
-    }
-    None
+    records.iter().position(|one| one.meets(wanted))
 }

@@ -1,28 +1,19 @@
-use Rattle.design.proofs.First.{searched_none, searched_more, told_found, told_none}
+use Rattle.std.proofs.Common.{◌≡◌, rules, tests, ◌∙◌}
+use Rattle.std.proofs.lemmas.Iterator.{YieldsList-from_slice}
+use Rattle.std.proofs.lemmas.Iterator.Adapters.{position_from-zero}
+use Rattle.std.proofs.lemmas.Iterator.Search.{position_from_yields_List}
+use Rattle.design.specs.Search.{first_place}
+use Rattle.design.proofs.First.{found_first}
 use Rattle.design.proofs.search.first_meeting.Goals as goal
 
-pub loop-place-init : goal.loop-place-init
-loop-place-init g c = searched_none (λ x. g.R.Record.meets x c.args.wanted.now) c.args.records.now
-
-pub loop-place-preserved : goal.loop-place-preserved
-loop-place-preserved g c =
-    searched_more (λ x. g.R.Record.meets x c.args.wanted.now) c.args.records.now c.loop-place.place
-    c.index-records-place.result c.loop-place-test.true c.index-records-place.is c.if-meets.ensures
-    c.loop-place.invariant
-
-pub returns-then-meets : goal.returns-then-meets
-returns-then-meets g c =
-    let said =
-    told_found (λ x. g.R.Record.meets x c.args.wanted.now) c.args.records.now c.loop-place.place
-    c.index-records-place.result c.loop-place-test.true c.index-records-place.is c.if-meets.ensures
-    c.loop-place.invariant
+pub returns-clause-answer : goal.returns-clause-answer
+returns-clause-answer g c =
+    let records = c.args.records.now in
+    let wanted = λ (x : g.row.R.Denot). g.R.Record.meets x c.args.wanted.now in
+    let found : c.position.result ≡ first_place wanted records =
+    position_from_yields_List wanted _ _ c.position.result c.position.ensures.ran
+    (YieldsList-from_slice records cc) (λ x b q k. search (rules, tests))
+    ∙ position_from-zero wanted records
+    ∙ found_first wanted records
     in
-    record { answer = said.0; first = said.1 }
-
-pub returns : goal.returns
-returns g c =
-    let said =
-    told_none (λ x. g.R.Record.meets x c.args.wanted.now) c.args.records.now c.loop-place.place
-    c.loop-place-test.false c.loop-place.invariant
-    in
-    record { answer = said.0; first = said.1 }
+    cc
