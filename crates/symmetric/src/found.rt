@@ -2,7 +2,7 @@
 use crate::vector::ValueVector;
 
 // The values at each weight, and at how many rows they are wrong.
-#[derive(Clone, Copy)]
+#[derive(Clone, Copy, PartialEq, Eq, Debug)]
 pub struct Nearest {
     pub vector: ValueVector,
     pub wrong: u32,

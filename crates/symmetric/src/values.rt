@@ -9,10 +9,7 @@ impl ValueVector {
     pub fn new(inputs: u32, bits: u32) -> Option<ValueVector>
         ensures { told result ≡ vectored inputs bits }
     {
-        if inputs < 1 || inputs > 16 {
-            return None;
-        }
-        if bits >= 1 << (inputs + 1) {
+        if !(1..=16).contains(&inputs) || bits >= 1 << (inputs + 1) {
             return None;
         }
         Some(ValueVector { inputs, bits })

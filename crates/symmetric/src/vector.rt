@@ -2,7 +2,7 @@
 ghost use Rattle.std.specs.Prelude.{◌+◌, ◌^◌, ◌<◌, ◌≤◌};
 
 // Bit w is the value at weight w; there are 1 to 16 inputs, and no bit above them.
-#[derive(Clone, Copy)]
+#[derive(Clone, Copy, PartialEq, Eq, Debug)]
 pub struct ValueVector {
     pub(crate) inputs: u32,
     pub(crate) bits: u32,
