@@ -6,6 +6,7 @@ ghost use Rattle.design.specs.Search.{first_place, Says};
 pub trait Record {
     ghost meets: { Self → Self → Bool };
 
+    // Whether this record meets the other.
     fn meets(&self, other: &Self) -> bool
         ensures { result ≡ meets self.now other.now };
 }
