@@ -7,6 +7,7 @@ use std::alloc::Global;
 use std::test::Fail;
 use symmetric::nearest;
 
+// A cube at output 0.
 fn cube(kind: u32, fixed: u16, value: u16) -> Cube {
     Cube {
         output: 0,
@@ -16,6 +17,7 @@ fn cube(kind: u32, fixed: u16, value: u16) -> Cube {
     }
 }
 
+// A node of this level with these two branches.
 fn node(level: u32, low: u32, high: u32) -> Node {
     Node { level, low, high }
 }
@@ -31,10 +33,15 @@ fn free_corner(heap: Global) -> Result<Diagram, Fail> {
     Ok(Diagram::new(3, 1, nodes, vec![in heap; 5]?)?)
 }
 
-// The bits of the vector nearest to a cover of one output, and its wrong rows.
-fn told(inputs: u32, cubes: Vec<Cube>) -> Result<(u32, u32), Fail> {
-    let found = nearest(&Cover::new(inputs, 1, cubes)?, 0)?;
+// The bits of the vector nearest to a design's first output, and its wrong rows.
+fn told<D: Design>(design: &D) -> Result<(u32, u32), Refusal> {
+    let found = nearest(design, 0)?;
     Ok((found.vector.bits(), found.wrong))
+}
+
+// The same of a cover of one output.
+fn told_cover(inputs: u32, cubes: Vec<Cube>) -> Result<(u32, u32), Refusal> {
+    told(&Cover::new(inputs, 1, cubes)?)
 }
 
 #[test]
@@ -119,21 +126,23 @@ fn the_earliest_of_two_is_found(rt: HostRuntime) {
 #[test]
 fn an_input_is_nearest_to_more_than_half(rt: HostRuntime) -> Result<(), Fail> {
     let heap = rt.alloc();
-    assert_eq!(rt; told(1, vec![in heap; cube(1, 1, 1)]?)?, (2, 0));
-    assert_eq!(rt; told(2, vec![in heap; cube(1, 1, 1)]?)?, (4, 1));
-    assert_eq!(rt; told(3, vec![in heap; cube(1, 1, 1)]?)?, (12, 2));
-    assert_eq!(rt; told(16, vec![in heap; cube(1, 1, 1)]?)?, (130560, 26333));
+    assert_eq!(rt; told_cover(1, vec![in heap; cube(1, 1, 1)]?)?, (2, 0));
+    assert_eq!(rt; told_cover(2, vec![in heap; cube(1, 1, 1)]?)?, (4, 1));
+    assert_eq!(rt; told_cover(3, vec![in heap; cube(1, 1, 1)]?)?, (12, 2));
+    assert_eq!(rt;
+        told_cover(16, vec![in heap; cube(1, 1, 1)]?)?,
+        (130560, 26333)
+    );
     let drawn = Diagram::new(16, 1, vec![in heap; node(0, 0, 1)]?, vec![in heap; 3]?)?;
-    let found = nearest(&drawn, 0)?;
-    assert_eq!(rt; (found.vector.bits(), found.wrong), (130560, 26333));
+    assert_eq!(rt; told(&drawn)?, (130560, 26333));
     Ok(())
 }
 
 #[test]
 fn zeros_and_dont_cares_are_nearest_to_zero(rt: HostRuntime) -> Result<(), Fail> {
     let heap = rt.alloc();
-    assert_eq!(rt; told(16, vec![in heap]?)?, (0, 0));
-    assert_eq!(rt; told(16, vec![in heap; cube(2, 0, 0)]?)?, (0, 0));
+    assert_eq!(rt; told_cover(16, vec![in heap]?)?, (0, 0));
+    assert_eq!(rt; told_cover(16, vec![in heap; cube(2, 0, 0)]?)?, (0, 0));
     Ok(())
 }
 
