@@ -15,12 +15,14 @@ impl ValueVector {
         Some(ValueVector { inputs, bits })
     }
 
+    // How many inputs it is for.
     pub fn inputs(&self) -> u32
         ensures { result ≡ self.now.inputs }
     {
         self.inputs
     }
 
+    // Its values as one number: bit w is the value at weight w.
     pub fn bits(&self) -> u32
         ensures { result ≡ self.now.bits }
     {
