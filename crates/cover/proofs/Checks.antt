@@ -1,7 +1,10 @@
 -- The checks of a table, one cube on.
-use Rattle.std.proofs.Common.{◌≡◌, ℕ, ◌+◌, ◌-◌, ◌<◌, ◌≤◌, cond, List, length, get_or, take, drop, Ok, Err, Option, sym, ap, ◌∙◌, ap₂, arith}
-use native.Mathlib.Nat.{sub-zero}
+use Rattle.std.proofs.Common.{◌≡◌, ℕ, ◌+◌, ◌<◌, ◌≤◌, not, List, [], ◌∷◌, length, get_or, take, drop, Some, None, Ok, Err, Option, Result, sym, refl, ap, ◌∙◌, ap₂, arith}
+use Rattle.std.specs.List.{position, position_from}
+use Rattle.std.specs.Option.{MatchOption}
 use Rattle.std.proofs.lemmas.List.{at_drop_more, at_drop_all, length-take-le, take_more}
+use Rattle.std.proofs.lemmas.Iterator.Adapters.{position_from-zero}
+use Rattle.refusal.specs.declared.table.Refusal.{Refusal}
 use Rattle.refusal.specs.declared.table.Refusal.TheVariants.{BadCube}
 use Rattle.design.specs.Search.{first_place}
 use Rattle.cover.specs.declared.cube.Cube.{Cube}
@@ -12,18 +15,25 @@ use Rattle.cover.specs.Tables.{all_good, met, apart}
 abbrev pub no_cube : Cube
 no_cube = record { output = 0; kind = 0; fixed = 0; value = 0 }
 
-pub good_step : (n m : ℕ) (cs : List Cube) (i : ℕ) (d : Cube) → i < length cs
-    → all_good n m i (drop i cs) ≡ cond (good n m (get_or cs i d)) (all_good n m (i + 1) (drop (i + 1) cs)) (Err (BadCube i))
-unfolding all_good
-good_step n m cs i d h = at_drop_more (all_good n m i) cs i d h
+-- what is answered for the place of a bad cube
+abbrev pub refused : Option ℕ → Result (Unit {0}) Refusal
+refused (Some place) = Err (BadCube place)
+refused None = Ok tt
 
-pub good_end : (n m : ℕ) (cs : List Cube) (i : ℕ) → length cs ≤ i → all_good n m i (drop i cs) ≡ Ok tt
+good_from : (n m i : ℕ) (cs : List Cube) → all_good n m i cs ≡ refused (position_from (λ c. not (good n m c)) i cs)
 unfolding all_good
-good_end n m cs i h = at_drop_all (all_good n m i) cs i h
+good_from n m i [] = refl
+good_from n m i (c ∷ cs) = grind (arith, good_from n m (i + 1) cs)
 
--- what the search among the cubes before place i answered; the code's slice of them ends at i - 0
+-- the lowest bad cube is the first that is not good
+pub lowest_bad : (n m : ℕ) (cs : List Cube) (found : Option ℕ) (answer : Result (Unit {0}) Refusal)
+    → found ≡ position (λ c. not (good n m c)) cs → MatchOption found (answer ≡ Ok tt) (λ place. answer ≡ Err (BadCube place))
+    → answer ≡ all_good n m 0 cs
+lowest_bad n m cs found answer e says = grind (arith, position_from-zero (λ c. not (good n m c)) cs, good_from n m 0 cs)
+
+-- what the search among the cubes before place i answered
 pub apart_step : (cs : List Cube) (i : ℕ) (found : Option ℕ) → i < length cs
-    → found ≡ first_place (λ x. meet x (get_or cs i no_cube)) (take (i - 0) cs)
+    → found ≡ first_place (λ x. meet x (get_or cs i no_cube)) (take i cs)
     → apart (take i cs) (drop i cs) ≡ met i found (apart (take (i + 1) cs) (drop (i + 1) cs))
 unfolding apart
 apart_step cs i found h e =
@@ -31,8 +41,7 @@ apart_step cs i found h e =
     at_drop_more (apart (take i cs)) cs i no_cube h
     ∙ ap₂ (λ place before. met place (first_place (λ x. meet x c) (take i cs)) (apart before (drop (i + 1) cs)))
     (length-take-le i cs (omega arith)) (sym (take_more cs i no_cube h))
-    ∙ ap (λ o. met i o (apart (take (i + 1) cs) (drop (i + 1) cs)))
-    (ap (λ k. first_place (λ x. meet x c) (take k cs)) (sym (sub-zero i)) ∙ sym e)
+    ∙ ap (λ o. met i o (apart (take (i + 1) cs) (drop (i + 1) cs))) (sym e)
 
 pub apart_end : (cs : List Cube) (i : ℕ) → length cs ≤ i → apart (take i cs) (drop i cs) ≡ Ok tt
 unfolding apart

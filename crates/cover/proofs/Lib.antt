@@ -3,5 +3,4 @@ pub mod Checks
 pub mod Reading
 pub mod Apart
 pub mod Tallies
-pub mod Asked
 pub mod Reasons

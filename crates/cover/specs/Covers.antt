@@ -8,7 +8,7 @@ use Rattle.cover.specs.Tables.{Table, table_meaning}
 
 -- the table in a cover
 abbrev pub table : Cover → Table
-table c = record { inputs = c.inputs; outputs = c.outputs; cubes = vec_items c.cubes }
+table c = record { inputs = c.size.inputs; outputs = c.size.outputs; cubes = vec_items c.cubes }
 
 -- the same for the answer of a call that makes one
 abbrev pub told : Result Cover Refusal → Result Table Refusal

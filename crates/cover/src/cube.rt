@@ -4,7 +4,7 @@
 #[derive(Clone, Copy)]
 pub struct Cube {
     pub output: u32,
-    // 1 on, 2 don't-care
+    // 1 on, 2 don't-care: a number, since a camera's table may hold any, and one that is no kind's is refused by its place
     pub kind: u32,
     // a set of inputs: bit j is input j
     pub fixed: u16,

@@ -1,20 +1,19 @@
 // What a cube holds, and which cubes it meets.
-ghost use Rattle.std.specs.Prelude.{◌≡◌, ◌≤◌};
-ghost use Rattle.cover.specs.Cubes.{good, holding, share, meet, marking};
+ghost use Rattle.std.specs.Prelude.{◌≡◌};
+ghost use Rattle.cover.specs.Cubes.{good, holding, meet, marking};
 
 use crate::cube::Cube;
-use design::{Mark, Record};
-use rows::choose;
+use crate::kind::Kind;
+use design::{Mark, Record, Size};
 
 impl Cube {
-    // Whether it may stand in a cover of so many inputs and outputs.
-    pub(crate) fn is_good(&self, inputs: u32, outputs: u32) -> bool
-        requires { inputs ≤ 16 }
-        ensures { result ≡ good inputs outputs self.now }
+    // Whether it may stand in a cover of the size.
+    pub(crate) fn is_good(&self, size: Size) -> bool
+        ensures { result ≡ good size.inputs size.outputs self.now }
     {
-        self.output < outputs
-            && (self.kind == 1 || self.kind == 2)
-            && u32::from(self.fixed) < 1 << inputs
+        self.output < size.outputs
+            && Kind::try_from(self.kind).is_ok()
+            && (size.inputs >= 16 || self.fixed < 1 << size.inputs)
             && self.value & self.fixed == self.value
     }
 
@@ -29,26 +28,7 @@ impl Cube {
     pub(crate) fn mark(&self) -> Mark
         ensures { result ≡ marking self.now.kind }
     {
-        match self.kind {
-            1 => Mark::One,
-            2 => Mark::DontCare,
-            _ => Mark::Zero,
-        }
-    }
-
-    // What it adds to the rows of a weight that have its kind at its output.
-    pub(crate) fn share(&self, output: u32, kind: u32, inputs: u32, weight: u32) -> u32
-        requires { inputs ≤ 16 }
-        ensures { result ≡ share inputs output kind weight self.now }
-    {
-        let ones = self.value.count_ones();
-        if self.output != output || self.kind != kind || weight < ones {
-            return 0;
-        }
-        choose(
-            inputs.saturating_sub(self.fixed.count_ones()),
-            weight - ones,
-        )
+        Kind::try_from(self.kind).map_or(Mark::Zero, Mark::from)
     }
 }
 

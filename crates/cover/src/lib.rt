@@ -4,6 +4,7 @@
 mod cover;
 mod cube;
 mod held;
+mod kind;
 mod theorems;
 
 pub use cover::Cover;

@@ -16,33 +16,23 @@ fn cube(kind: u32, fixed: u16, value: u16) -> Cube {
 
 // 4,096 on cubes that hold all rows of 16 inputs.
 fn full_table(heap: Global) -> Result<Vec<Cube>, AllocError> {
-    let mut cubes = Vec::new(heap);
-    for value in 0..4096u16 {
-        cubes.push(cube(1, 4095, value))?;
-    }
-    Ok(cubes)
+    (0..4096u16).map(|value| cube(1, 4095, value)).collect(heap)
 }
 
 #[test]
 fn sizes_are_refused_first(rt: HostRuntime) -> Result<(), Fail> {
     let heap = rt.alloc();
     let bad = cube(3, 0, 0);
-    assert_eq!(rt;
-        Cover::new(0, 9, vec![in heap; bad]?).err(),
-        Some(Refusal::Inputs)
-    );
-    assert_eq!(rt;
-        Cover::new(17, 1, vec![in heap; bad]?).err(),
-        Some(Refusal::Inputs)
-    );
-    assert_eq!(rt;
-        Cover::new(16, 0, vec![in heap; bad]?).err(),
-        Some(Refusal::Outputs)
-    );
-    assert_eq!(rt;
-        Cover::new(16, 9, vec![in heap; bad]?).err(),
-        Some(Refusal::Outputs)
-    );
+    let sizes = [
+        (0, 9, Refusal::Inputs),
+        (17, 1, Refusal::Inputs),
+        (16, 0, Refusal::Outputs),
+        (16, 9, Refusal::Outputs),
+    ];
+    for (inputs, outputs, refusal) in sizes {
+        let answer = Cover::new(inputs, outputs, vec![in heap; bad]?);
+        assert_eq!(rt; answer.err(), Some(refusal));
+    }
     let mut many = full_table(heap)?;
     many.push(bad)?;
     assert_eq!(rt;
@@ -62,22 +52,18 @@ fn bad_cubes_are_refused_before_meeting_ones(rt: HostRuntime) -> Result<(), Fail
         fixed: 0,
         value: 0,
     };
-    assert_eq!(rt;
-        Cover::new(3, 1, vec![in heap; all, all, far]?).err(),
-        Some(Refusal::BadCube { place: 2 })
-    );
-    assert_eq!(rt;
-        Cover::new(3, 1, vec![in heap; cube(3, 0, 0), far]?).err(),
-        Some(Refusal::BadCube { place: 0 })
-    );
-    assert_eq!(rt;
-        Cover::new(3, 1, vec![in heap; cube(1, 8, 0)]?).err(),
-        Some(Refusal::BadCube { place: 0 })
-    );
-    assert_eq!(rt;
-        Cover::new(3, 1, vec![in heap; cube(1, 1, 3)]?).err(),
-        Some(Refusal::BadCube { place: 0 })
-    );
+    let tables = [
+        (vec![in heap; all, all, far]?, 2),
+        (vec![in heap; cube(3, 0, 0), far]?, 0),
+        (vec![in heap; cube(1, 8, 0)]?, 0),
+        (vec![in heap; cube(1, 1, 3)]?, 0),
+    ];
+    for (table, place) in tables {
+        assert_eq!(rt;
+            Cover::new(3, 1, table).err(),
+            Some(Refusal::BadCube { place })
+        );
+    }
     Ok(())
 }
 
@@ -98,14 +84,24 @@ fn the_first_that_meets_and_the_earliest_it_meets(rt: HostRuntime) -> Result<(),
 #[test]
 fn marks_and_tallies_of_a_small_table(rt: HostRuntime) -> Result<(), Fail> {
     let cover = Cover::new(3, 1, vec![in rt.alloc(); cube(1, 1, 1), cube(2, 7, 6)]?)?;
-    assert_eq!(rt; cover.mark(0, 0), Ok(Mark::Zero));
-    assert_eq!(rt; cover.mark(0, 6), Ok(Mark::DontCare));
-    assert_eq!(rt; cover.mark(0, 7), Ok(Mark::One));
-    assert_eq!(rt; cover.mark(0, 8), Err(Refusal::NoRow));
-    assert_eq!(rt; cover.tally(0, 2), Ok(Tally { on: 2, free: 1 }));
-    assert_eq!(rt; cover.tally(0, 3), Ok(Tally { on: 1, free: 0 }));
-    assert_eq!(rt; cover.tally(0, 4), Err(Refusal::NoWeight));
-    assert_eq!(rt; cover.tally(1, 4), Err(Refusal::NoOutput));
+    let marks = [
+        (0, Ok(Mark::Zero)),
+        (6, Ok(Mark::DontCare)),
+        (7, Ok(Mark::One)),
+        (8, Err(Refusal::NoRow)),
+    ];
+    for (row, mark) in marks {
+        assert_eq!(rt; cover.mark(0, row), mark);
+    }
+    let tallies = [
+        (0, 2, Ok(Tally { on: 2, free: 1 })),
+        (0, 3, Ok(Tally { on: 1, free: 0 })),
+        (0, 4, Err(Refusal::NoWeight)),
+        (1, 4, Err(Refusal::NoOutput)),
+    ];
+    for (output, weight, tally) in tallies {
+        assert_eq!(rt; cover.tally(output, weight), tally);
+    }
     Ok(())
 }
 

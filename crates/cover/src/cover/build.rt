@@ -1,11 +1,13 @@
 // How a cover is made.
-ghost use Rattle.std.specs.Prelude.{◌≡◌, ◌≤◌, []};
+ghost use Rattle.std.specs.Prelude.{◌≡◌, [], not};
+ghost use Rattle.std.specs.List.{position};
+ghost use Rattle.cover.specs.Cubes.{good};
 ghost use Rattle.cover.specs.Tables.{all_good, apart, opened};
 ghost use Rattle.cover.specs.Covers.{told};
 
 use crate::cover::Cover;
 use crate::cube::Cube;
-use design::first_meeting;
+use design::{Size, first_meeting};
 use refusal::Refusal;
 
 impl Cover {
@@ -22,35 +24,33 @@ impl Cover {
         if cubes.len() > 4096 {
             return Err(Refusal::TooMany { count: cubes.len() });
         }
-        check_each(inputs, outputs, cubes.as_slice())?;
+        let size = Size { inputs, outputs };
+        check_each(size, cubes.as_slice())?;
         check_pairs(cubes.as_slice())?;
-        Ok(Cover {
-            inputs,
-            outputs,
-            cubes,
-        })
+        Ok(Cover { size, cubes })
     }
 }
 
 // Refuses the lowest bad cube.
-fn check_each(inputs: u32, outputs: u32, cubes: &[Cube]) -> Result<(), Refusal>
-    requires { inputs ≤ 16 }
-    ensures { result ≡ all_good inputs outputs 0 cubes.now }
+fn check_each(size: Size, cubes: &[Cube]) -> Result<(), Refusal>
+    ensures { result ≡ all_good size.inputs size.outputs 0 cubes.now }
 {
-    for (place, cube) in cubes.iter().enumerate() {
-        if !cube.is_good(inputs, outputs) {
-            return Err(Refusal::BadCube { place });
-        }
-    }
-    Ok(())
+    lowest_bad(size, cubes).map_or(Ok(()), |place| Err(Refusal::BadCube { place }))
+}
+
+// The place of the lowest bad cube.
+fn lowest_bad(size: Size, cubes: &[Cube]) -> Option<usize>
+    ensures { result ≡ position (λ cube. not (good size.inputs size.outputs cube)) cubes.now }
+{
+    cubes.iter().position(|cube| !cube.is_good(size))
 }
 
 // Refuses the first cube that meets an earlier one, with the earliest that it meets.
 fn check_pairs(cubes: &[Cube]) -> Result<(), Refusal>
     ensures { result ≡ apart [] cubes.now }
 {
-    for place in 0..cubes.len() {
-        if let Some(earlier) = first_meeting(&cubes[0..place], &cubes[place]) {
+    for (place, cube) in cubes.iter().enumerate() {
+        if let Some(earlier) = first_meeting(&cubes[..place], cube) {
             return Err(Refusal::CubesMeet { place, earlier });
         }
     }
