@@ -1,13 +1,11 @@
 // How a cover is made.
-ghost use Rattle.std.specs.Prelude.{◌≡◌, [], not};
-ghost use Rattle.std.specs.List.{position};
-ghost use Rattle.cover.specs.Cubes.{good};
+ghost use Rattle.std.specs.Prelude.{◌≡◌, []};
 ghost use Rattle.cover.specs.Tables.{all_good, apart, opened};
 ghost use Rattle.cover.specs.Covers.{told};
 
 use crate::cover::Cover;
 use crate::cube::Cube;
-use design::{Size, first_meeting};
+use design::{Size, check_sizes, first_meeting};
 use refusal::Refusal;
 
 impl Cover {
@@ -15,15 +13,7 @@ impl Cover {
     pub fn new(inputs: u32, outputs: u32, cubes: Vec<Cube>) -> Result<Cover, Refusal>
         ensures { told result ≡ opened inputs outputs cubes.items }
     {
-        if inputs == 0 || inputs > 16 {
-            return Err(Refusal::Inputs);
-        }
-        if outputs == 0 || outputs > 8 {
-            return Err(Refusal::Outputs);
-        }
-        if cubes.len() > 4096 {
-            return Err(Refusal::TooMany { count: cubes.len() });
-        }
+        check_sizes(inputs, outputs, cubes.len())?;
         let size = Size { inputs, outputs };
         check_each(size, cubes.as_slice())?;
         check_pairs(cubes.as_slice())?;
@@ -35,14 +25,8 @@ impl Cover {
 fn check_each(size: Size, cubes: &[Cube]) -> Result<(), Refusal>
     ensures { result ≡ all_good size.inputs size.outputs 0 cubes.now }
 {
-    lowest_bad(size, cubes).map_or(Ok(()), |place| Err(Refusal::BadCube { place }))
-}
-
-// The place of the lowest bad cube.
-fn lowest_bad(size: Size, cubes: &[Cube]) -> Option<usize>
-    ensures { result ≡ position (λ cube. not (good size.inputs size.outputs cube)) cubes.now }
-{
-    cubes.iter().position(|cube| !cube.is_good(size))
+    let bad = cubes.iter().position(|cube| !cube.is_good(size));
+    bad.map_or(Ok(()), |place| Err(Refusal::BadCube { place }))
 }
 
 // Refuses the first cube that meets an earlier one, with the earliest that it meets.
