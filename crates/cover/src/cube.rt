@@ -4,7 +4,7 @@
 #[derive(Clone, Copy)]
 pub struct Cube {
     pub output: u32,
-    // 1 on, 2 don't-care: a number, since a camera's table may hold any, and one that is no kind's is refused by its place
+    // 1 on, 2 don't-care; a plain number, since a camera's table may hold any: one of no kind is refused as a bad cube
     pub kind: u32,
     // a set of inputs: bit j is input j
     pub fixed: u16,

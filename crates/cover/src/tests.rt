@@ -5,6 +5,7 @@ use refusal::Refusal;
 use std::alloc::{AllocError, Global};
 use std::test::Fail;
 
+// A cube of output 0. Its kind is a table's number, so that a bad one can be asked for.
 fn cube(kind: u32, fixed: u16, value: u16) -> Cube {
     Cube {
         output: 0,
