@@ -7,7 +7,7 @@ use crate::kind::Kind;
 use design::{Mark, Record, Size};
 
 impl Cube {
-    // Whether it may stand in a cover of the size.
+    // Whether it may stand in a cover of the size. Sets have 16 bits, so that of 16 inputs or more each is in bounds.
     pub(crate) fn is_good(&self, size: Size) -> bool
         ensures { result ≡ good size.inputs size.outputs self.now }
     {
