@@ -2,8 +2,8 @@ pub mod Each
 pub mod Kept
 pub mod Reading
 pub mod Below
+pub mod Reasons
 pub mod Behind
+pub mod Roots
 pub mod Counted
 pub mod Parts
-pub mod Roots
-pub mod Reasons

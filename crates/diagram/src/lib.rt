@@ -3,10 +3,12 @@
 
 mod node;
 mod table;
+mod target;
 mod theorems;
 
 pub use node::Node;
 pub use table::Diagram;
+pub use target::Target;
 pub use theorems::{buildings_have_reasons, figure_holds, steps_suffice};
 
 #[cfg(test)]

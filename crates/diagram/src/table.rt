@@ -5,9 +5,8 @@ ghost use Rattle.diagram.specs.Rules.{kept};
 use crate::node::Node;
 
 mod build;
-mod count;
 mod questions;
-mod walk;
+mod spot;
 
 // A table that keeps the rules of a diagram.
 #[derive(Drop)]
