@@ -1,24 +1,31 @@
--- A list checked element by element: one step, the end, and what a passed check tells of each place.
-use Rattle.std.proofs.Common.{◌≡◌, ℕ, zero, suc, ◌+◌, ◌<◌, ◌≤◌, Bool, true, false, cond, List, [], ◌∷◌, length, get_or, drop, is_ok, Ok, Err, refl, ap, ◌∙◌, add-zero, arith}
-use Rattle.std.proofs.lemmas.List.{at_drop_more, at_drop_all}
+-- A list is checked by a search for the first element that does not pass.
+use Rattle.std.proofs.Common.{◌≡◌, ℕ, zero, suc, ◌+◌, ◌<◌, Bool, true, false, not, cond, List, [], ◌∷◌, length, get_or, is_ok, Some, None, Option, Ok, Err, Result, refl, add-zero, arith}
 use Rattle.std.proofs.lemmas.Bool.{false≢true}
+use Rattle.std.specs.List.{position_from, enumerate_from}
 use Rattle.refusal.specs.declared.table.Refusal.{Refusal}
 use Rattle.diagram.specs.Rules.{each}
 
-module _ {X : Type 0} (fit : ℕ → X → Bool) (refuse : ℕ → Refusal) (xs : List X) (i : ℕ) where
-  pub each_more : (d : X) → i < length xs → fit i (get_or xs i d) ≡ true → each fit refuse i (drop i xs) ≡ each fit refuse (i + 1) (drop (i + 1) xs)
-  unfolding each
-  each_more d h e =
-      at_drop_more (each fit refuse i) xs i d h ∙ ap (λ b. cond b (each fit refuse (i + 1) (drop (i + 1) xs)) (Err (refuse i))) e
+-- the element found is refused
+abbrev pub refused : (ℕ → Refusal) → Option ℕ → Result (Unit {0}) Refusal
+refused refuse (Some place) = Err (refuse place)
+refused refuse None = Ok tt
 
-  pub each_stop : (d : X) → i < length xs → fit i (get_or xs i d) ≡ false → each fit refuse i (drop i xs) ≡ Err (refuse i)
-  unfolding each
-  each_stop d h e =
-      at_drop_more (each fit refuse i) xs i d h ∙ ap (λ b. cond b (each fit refuse (i + 1) (drop (i + 1) xs)) (Err (refuse i))) e
+-- one element checked, and the rest
+checked : (refuse : ℕ → Refusal) (start : ℕ) (here : Bool) (rest : Result (Unit {0}) Refusal) (later : Option ℕ) → rest ≡ refused refuse later → cond here rest (Err (refuse start)) ≡ refused refuse (cond (not here) (Some start) later)
+checked refuse start true rest later e = e
+checked refuse start false rest later e = refl
 
-  pub each_end : length xs ≤ i → each fit refuse i (drop i xs) ≡ Ok tt
-  unfolding each
-  each_end h = at_drop_all (each fit refuse i) xs i h
+-- a test of the element alone
+pub each_first : {X : Type 0} (fit : X → Bool) (refuse : ℕ → Refusal) (start : ℕ) (xs : List X) → each (λ _ x. fit x) refuse start xs ≡ refused refuse (position_from (λ x. not (fit x)) start xs)
+unfolding each
+each_first fit refuse start [] = refl
+each_first fit refuse start (x ∷ xs) = checked refuse start (fit x) _ _ (each_first fit refuse (start + 1) xs)
+
+-- a test of the element at its place
+pub each_first_placed : {X : Type 0} (fit : ℕ → X → Bool) (refuse : ℕ → Refusal) (start : ℕ) (xs : List X) → each fit refuse start xs ≡ refused refuse (position_from (λ p. not (fit p.0 p.1)) start (enumerate_from start xs))
+unfolding each
+each_first_placed fit refuse start [] = refl
+each_first_placed fit refuse start (x ∷ xs) = checked refuse start (fit start x) _ _ (each_first_placed fit refuse (start + 1) xs)
 
 -- where the whole list passes, each element passes at its place
 pub each_at : {X : Type 0} (fit : ℕ → X → Bool) (refuse : ℕ → Refusal) (start : ℕ) (xs : List X) → is_ok (each fit refuse start xs) ≡ true → (k : ℕ) (d : X) → k < length xs → fit (start + k) (get_or xs k d) ≡ true

@@ -7,3 +7,4 @@ pub mod Behind
 pub mod Roots
 pub mod Counted
 pub mod Parts
+pub mod Earlier

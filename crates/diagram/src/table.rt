@@ -8,7 +8,8 @@ mod build;
 mod questions;
 mod spot;
 
-// A table that keeps the rules of a diagram.
+// A table that keeps the rules of a diagram. It stays a list with references into it, in the customer's order:
+// nodes are shared, and refusals name their places.
 #[derive(Drop)]
 pub struct Diagram {
     inputs: u32,

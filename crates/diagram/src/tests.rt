@@ -1,5 +1,5 @@
 // Diagrams built, refused and asked.
-use crate::{Diagram, Node};
+use crate::{Diagram, Node, Target};
 use design::{Design, Mark, Tally};
 use refusal::Refusal;
 use std::alloc::Global;
@@ -11,10 +11,19 @@ fn node(level: u32, low: u32, high: u32) -> Node {
 
 // The refusal of a table, or none.
 fn refusal(inputs: u32, outputs: u32, nodes: Vec<Node>, roots: Vec<u32>) -> Option<Refusal> {
-    match Diagram::new(inputs, outputs, nodes, roots) {
-        Ok(_) => None,
-        Err(why) => Some(why),
-    }
+    Diagram::new(inputs, outputs, nodes, roots).err()
+}
+
+#[test]
+fn references_lead_to_marks_and_nodes(rt: HostRuntime) {
+    let targets = [0, 2, 3, u32::MAX].map(Target::from);
+    let wanted = [
+        Target::Mark(Mark::Zero),
+        Target::Mark(Mark::DontCare),
+        Target::Node(0),
+        Target::Node(4294967292),
+    ];
+    assert_eq!(rt; targets, wanted);
 }
 
 #[test]
@@ -33,48 +42,45 @@ fn a_skipped_level_doubles_the_rows(rt: HostRuntime) -> Result<(), Fail> {
     // level 0 is skipped at the root, level 2 at a branch, levels 2 and 3 above a mark
     let nodes = vec![in heap; node(3, 2, 1), node(1, 1, 3)]?;
     let d = Diagram::new(4, 1, nodes, vec![in heap; 4]?)?;
-    assert_eq!(rt; d.tally(0, 2), Ok(Tally { on: 4, free: 2 }));
-    assert_eq!(rt; d.tally(0, 4), Ok(Tally { on: 1, free: 0 }));
-    assert_eq!(rt; d.tally(0, 5), Err(Refusal::NoWeight));
-    assert_eq!(rt; d.tally(1, 5), Err(Refusal::NoOutput));
-    assert_eq!(rt; d.mark(0, 0), Ok(Mark::One));
-    assert_eq!(rt; d.mark(0, 7), Ok(Mark::DontCare));
-    assert_eq!(rt; d.mark(0, 15), Ok(Mark::One));
-    assert_eq!(rt; d.mark(0, 16), Err(Refusal::NoRow));
+    let tallies = [
+        ((0, 2), Ok(Tally { on: 4, free: 2 })),
+        ((0, 4), Ok(Tally { on: 1, free: 0 })),
+        ((0, 5), Err(Refusal::NoWeight)),
+        ((1, 5), Err(Refusal::NoOutput)),
+    ];
+    for ((output, weight), wanted) in tallies {
+        assert_eq!(rt; d.tally(output, weight), wanted);
+    }
+    let marks = [
+        (0, Ok(Mark::One)),
+        (7, Ok(Mark::DontCare)),
+        (15, Ok(Mark::One)),
+        (16, Err(Refusal::NoRow)),
+    ];
+    for (row, wanted) in marks {
+        assert_eq!(rt; d.mark(0, row), wanted);
+    }
     Ok(())
 }
 
 #[test]
 fn the_first_broken_rule_is_told(rt: HostRuntime) -> Result<(), Fail> {
     let heap = rt.alloc();
-    assert_eq!(rt;
-        refusal(17, 9, vec![in heap]?, vec![in heap; 9]?),
-        Some(Refusal::Inputs)
-    );
-    assert_eq!(rt;
-        refusal(16, 9, vec![in heap]?, vec![in heap; 9]?),
-        Some(Refusal::Outputs)
-    );
-    let low = vec![in heap; node(1, 0, 0), node(1, 1, 3)]?;
-    assert_eq!(rt;
-        refusal(2, 1, low, vec![in heap]?),
-        Some(Refusal::BadNode { place: 1 })
-    );
-    let late = vec![in heap; node(2, 0, 0), node(0, 0, 4)]?;
-    assert_eq!(rt;
-        refusal(2, 1, late, vec![in heap]?),
-        Some(Refusal::BadNode { place: 0 })
-    );
-    let good = vec![in heap; node(1, 0, 1), node(0, 2, 3)]?;
-    assert_eq!(rt;
-        refusal(2, 1, good, vec![in heap; 9, 9]?),
-        Some(Refusal::RootCount { length: 2 })
-    );
-    let good = vec![in heap; node(1, 0, 1), node(0, 2, 3)]?;
-    assert_eq!(rt;
-        refusal(2, 2, good, vec![in heap; 4, 5]?),
-        Some(Refusal::BadRoot { output: 1 })
-    );
+    let low = [node(1, 0, 0), node(1, 1, 3)];
+    let late = [node(2, 0, 0), node(0, 0, 4)];
+    let good = [node(1, 0, 1), node(0, 2, 3)];
+    let tables = [
+        (17, 9, &[][..], &[9][..], Refusal::Inputs),
+        (16, 9, &[], &[9], Refusal::Outputs),
+        (2, 1, &low, &[], Refusal::BadNode { place: 1 }),
+        (2, 1, &late, &[], Refusal::BadNode { place: 0 }),
+        (2, 1, &good, &[9, 9], Refusal::RootCount { length: 2 }),
+        (2, 2, &good, &[4, 5], Refusal::BadRoot { output: 1 }),
+    ];
+    for (inputs, outputs, nodes, roots, why) in tables {
+        let told = refusal(inputs, outputs, nodes.to_vec(heap)?, roots.to_vec(heap)?);
+        assert_eq!(rt; told, Some(why));
+    }
     Ok(())
 }
 

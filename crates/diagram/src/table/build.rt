@@ -6,6 +6,7 @@ ghost use Rattle.diagram.specs.Meaning.{tabled, built};
 
 use crate::node::Node;
 use crate::table::Diagram;
+use crate::target::Target;
 use refusal::Refusal;
 
 impl Diagram {
@@ -30,6 +31,7 @@ impl Diagram {
     }
 }
 
+// Refuses a table for its sizes.
 fn check_sizes(inputs: u32, outputs: u32, count: usize) -> Result<(), Refusal>
     ensures { result ≡ sizes inputs outputs count }
 {
@@ -45,6 +47,7 @@ fn check_sizes(inputs: u32, outputs: u32, count: usize) -> Result<(), Refusal>
     Ok(())
 }
 
+// Refuses a list of roots that has not one for each output.
 fn check_root_count(outputs: u32, length: usize) -> Result<(), Refusal>
     ensures { result ≡ root_count outputs length }
 {
@@ -54,50 +57,57 @@ fn check_root_count(outputs: u32, length: usize) -> Result<(), Refusal>
     Ok(())
 }
 
+// Refuses the lowest node that may not stand after those before it.
 fn check_nodes(inputs: u32, nodes: &[Node]) -> Result<(), Refusal>
     ensures { result ≡ each (fit_node inputs nodes.now) BadNode 0 nodes.now }
 {
-    for (place, node) in nodes.iter().enumerate() {
-        if !fits_node(inputs, nodes, place, *node) {
-            return Err(Refusal::BadNode { place });
-        }
+    let bad = nodes
+        .iter()
+        .enumerate()
+        .position(|(place, node)| !node.fits(inputs, &nodes[..place]));
+    match bad {
+        Some(place) => Err(Refusal::BadNode { place }),
+        None => Ok(()),
     }
-    Ok(())
 }
 
+// Refuses the lowest output whose root is neither mark nor node.
 fn check_roots(nodes: usize, roots: &[u32]) -> Result<(), Refusal>
     ensures { result ≡ each (fit_root nodes) BadRoot 0 roots.now }
 {
-    for (output, reference) in roots.iter().enumerate() {
-        if !fits_root(nodes, *reference) {
-            return Err(Refusal::BadRoot { output });
+    match roots.iter().position(|root| !fits_root(nodes, *root)) {
+        Some(output) => Err(Refusal::BadRoot { output }),
+        None => Ok(()),
+    }
+}
+
+// A root leads to a mark or to one of so many nodes.
+fn fits_root(nodes: usize, reference: u32) -> bool
+    ensures { result ≡ fit_root nodes 0 reference }
+{
+    match Target::from(reference) {
+        Target::Mark(_) => true,
+        Target::Node(place) => place < nodes,
+    }
+}
+
+impl Node {
+    // Whether the node may stand after these: it tests an input, and its branches fit.
+    fn fits(&self, inputs: u32, earlier: &[Node]) -> bool
+        ensures { result ≡ fit_node inputs earlier.now (length earlier.now) self.now }
+    {
+        self.level < inputs && self.is_above(earlier, self.low) && self.is_above(earlier, self.high)
+    }
+
+    // Whether a reference leads to a mark, or to one of these nodes at a greater level.
+    fn is_above(&self, earlier: &[Node], reference: u32) -> bool
+        ensures { result ≡ fit_branch earlier.now (length earlier.now) self.now.level reference }
+    {
+        match Target::from(reference) {
+            Target::Mark(_) => true,
+            Target::Node(place) => earlier
+                .get(place)
+                .is_some_and(|node| node.level > self.level),
         }
     }
-    Ok(())
-}
-
-fn fits_root(nodes: usize, reference: u32) -> bool
-    ensures { (output : ℕ) → result ≡ fit_root nodes output reference }
-{
-    reference < 3 || ((reference - 3) as usize) < nodes
-}
-
-fn fits_node(inputs: u32, nodes: &[Node], place: usize, node: Node) -> bool
-    requires { place ≤ length nodes.now }
-    ensures { result ≡ fit_node inputs nodes.now place node }
-{
-    node.level < inputs
-        && fits_branch(nodes, place, node.level, node.low)
-        && fits_branch(nodes, place, node.level, node.high)
-}
-
-fn fits_branch(nodes: &[Node], place: usize, level: u32, reference: u32) -> bool
-    requires { place ≤ length nodes.now }
-    ensures { result ≡ fit_branch nodes.now place level reference }
-{
-    if reference < 3 {
-        return true;
-    }
-    let earlier = (reference - 3) as usize;
-    earlier < place && nodes[earlier].level > level
 }

@@ -1,19 +1,23 @@
-use Rattle.std.proofs.Common.{sym, ◌∙◌, arith}
+use Rattle.std.proofs.Common.{◌≡◌, not, sym, ap, ◌∙◌, rules, tests}
+use Rattle.std.specs.List.{position_from}
+use Rattle.std.proofs.lemmas.Iterator.{YieldsList-from_slice}
+use Rattle.std.proofs.lemmas.Iterator.Search.{position_from_yields_List}
+use Rattle.std.proofs.lemmas.Iterator.Adapters.{position_from-zero}
 use Rattle.refusal.specs.declared.table.Refusal.TheVariants.{BadRoot}
 use Rattle.diagram.specs.Rules.{fit_root}
-use Rattle.diagram.proofs.Each.{each_more, each_stop, each_end}
+use Rattle.diagram.proofs.Each.{refused, each_first}
+use Rattle.diagram.proofs.table.build.check_roots.Goals.{After-position}
 use Rattle.diagram.proofs.table.build.check_roots.Goals as goal
 
-pub returns-then-not-fits_root : goal.returns-then-not-fits_root
-returns-then-not-fits_root c =
-    sym (each_stop (fit_root c.args.nodes) BadRoot c.args.roots.now c.loop-output.output 0 (omega arith) (sym (c.if-not-fits_root.ensures c.loop-output.output)))
-    ∙ c.loop-output.invariant
+found : (c : After-position) → c.position.result ≡ position_from (λ x. not (fit_root c.args.nodes 0 x)) 0 c.args.roots.now
+found c =
+    position_from_yields_List (λ x. not (fit_root c.args.nodes 0 x)) _ _ _ c.position.ensures.ran (YieldsList-from_slice c.args.roots.now cc) (λ x b q k. search (rules, tests))
+    ∙ position_from-zero (λ x. not (fit_root c.args.nodes 0 x)) c.args.roots.now
 
-pub loop-output-preserved : goal.loop-output-preserved
-loop-output-preserved c =
-    sym (each_more (fit_root c.args.nodes) BadRoot c.args.roots.now c.loop-output.output 0 (omega arith) (sym (c.if-not-fits_root.ensures c.loop-output.output)))
-    ∙ c.loop-output.invariant
+pub returns-in-Some : goal.returns-in-Some
+returns-in-Some c =
+    ap (refused BadRoot) (sym c.in-Some.is ∙ found (goal.at.returns-in-Some c).After-position) ∙ sym (each_first (fit_root c.args.nodes 0) BadRoot 0 c.args.roots.now)
 
-pub returns : goal.returns
-returns c =
-    sym (each_end (fit_root c.args.nodes) BadRoot c.args.roots.now c.loop-output.output (omega arith)) ∙ c.loop-output.invariant
+pub returns-in-None : goal.returns-in-None
+returns-in-None c =
+    ap (refused BadRoot) (sym c.in-None.is ∙ found (goal.at.returns-in-None c).After-position) ∙ sym (each_first (fit_root c.args.nodes 0) BadRoot 0 c.args.roots.now)
