@@ -1,8 +1,10 @@
 -- A list is checked by a search for the first element that does not pass.
-use Rattle.std.proofs.Common.{◌≡◌, ℕ, zero, suc, ◌+◌, ◌<◌, Bool, true, false, not, cond, List, [], ◌∷◌, length, get_or, is_ok, Some, None, Option, Ok, Err, Result, refl, add-zero, arith}
+use Rattle.std.proofs.Common.{◌≡◌, ℕ, ◌+◌, Bool, true, false, not, cond, List, [], ◌∷◌, is_ok, Some, None, Option, Ok, Err, Result, refl}
 use Rattle.std.proofs.lemmas.Bool.{false≢true}
 use Rattle.std.specs.List.{position_from, enumerate_from}
 use Rattle.refusal.specs.declared.table.Refusal.{Refusal}
+use Rattle.design.specs.Checks.{Every, CheckedSays}
+use Rattle.design.proofs.Reasons.{each_says}
 use Rattle.diagram.specs.Rules.{each}
 
 -- the element found is refused
@@ -27,17 +29,15 @@ unfolding each
 each_first_placed fit refuse start [] = refl
 each_first_placed fit refuse start (x ∷ xs) = checked refuse start (fit start x) _ _ (each_first_placed fit refuse (start + 1) xs)
 
--- where the whole list passes, each element passes at its place
-pub each_at : {X : Type 0} (fit : ℕ → X → Bool) (refuse : ℕ → Refusal) (start : ℕ) (xs : List X) → is_ok (each fit refuse start xs) ≡ true → (k : ℕ) (d : X) → k < length xs → fit (start + k) (get_or xs k d) ≡ true
+-- what an answer of the check says
+pub each_tells : {X : Type 0} (fit : ℕ → X → Bool) (refuse : ℕ → Refusal) (xs : List X) → CheckedSays fit refuse xs (each fit refuse 0 xs)
 unfolding each
-each_at fit refuse start [] ok k d h = absurd (omega arith)
-each_at fit refuse start (x ∷ xs) ok zero d h = go (fit start x) refl ok
+each_tells fit refuse xs = each_says fit refuse (each fit refuse) (λ i. refl) (λ i y ys. refl) xs
+
+-- where the whole list passes, each element passes at its place
+pub each_passes : {X : Type 0} (fit : ℕ → X → Bool) (refuse : ℕ → Refusal) (xs : List X) → is_ok (each fit refuse 0 xs) ≡ true → Every fit xs
+each_passes {X} fit refuse xs = by (each fit refuse 0 xs) (each_tells fit refuse xs)
   where
-    go : (b : Bool) → fit start x ≡ b → is_ok (cond b (each fit refuse (start + 1) xs) (Err (refuse start))) ≡ true → fit (start + 0) x ≡ true
-    go true e ok = rw add-zero e
-    go false e ok = absurd (false≢true ok)
-each_at fit refuse start (x ∷ xs) ok (suc k) d h = go (fit start x) ok (λ rest. each_at fit refuse (start + 1) xs rest k d (omega arith))
-  where
-    go : (b : Bool) → is_ok (cond b (each fit refuse (start + 1) xs) (Err (refuse start))) ≡ true → (is_ok (each fit refuse (start + 1) xs) ≡ true → fit (start + 1 + k) (get_or xs k d) ≡ true) → fit (start + suc k) (get_or xs k d) ≡ true
-    go true ok then = let e : start + suc k ≡ start + 1 + k = omega arith in rw e (then ok)
-    go false ok then = absurd (false≢true ok)
+    by : (r : Result (Unit {0}) Refusal) → CheckedSays fit refuse xs r → is_ok r ≡ true → Every fit xs
+    by (Ok _) said ok = said
+    by (Err why) said ok = absurd (false≢true ok)

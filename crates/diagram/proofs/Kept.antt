@@ -1,29 +1,24 @@
 -- What the rules of a table tell: its sizes, and of a reference where its branches lead.
-use Rattle.std.proofs.Common.{◌≡◌, ℕ, ◌+◌, ◌-◌, ◌/◌, ◌%◌, ◌^◌, ◌<◌, ◌≤◌, true, eqb, List, length, get_or, is_ok, Ok, Err, Result, refl, zero-add, arith}
+use Rattle.std.proofs.Common.{◌≡◌, ℕ, ◌+◌, ◌-◌, ◌/◌, ◌%◌, ◌^◌, ◌<◌, ◌≤◌, true, eqb, List, length, get_or, is_ok, Ok, Err, Result, refl, arith}
 use Rattle.std.proofs.lemmas.Bool.{false≢true, and_parts, ltb-true, cond_both}
 use Rattle.std.proofs.lemmas.Bool.Decides.{nat_tests}
 use Rattle.refusal.specs.declared.table.Refusal.{Refusal}
 use Rattle.refusal.specs.declared.table.Refusal.TheVariants.{BadNode, BadRoot}
+use Rattle.design.specs.Checks.{Sizes, sizes}
+use Rattle.design.proofs.Reasons.{by_sizes}
 use Rattle.diagram.specs.declared.node.Node.{Node}
 use Rattle.diagram.specs.Walk.{no_node, node_at, branch}
-use Rattle.diagram.specs.Rules.{fit_branch, fit_node, fit_root, each, sizes, root_count, then, kept}
+use Rattle.diagram.specs.Rules.{fit_branch, fit_node, fit_root, each, root_count, then, kept}
 use Rattle.diagram.specs.Counting.{level_of}
-use Rattle.diagram.proofs.Each.{each_at}
+use Rattle.diagram.proofs.Each.{each_passes}
 
 -- a check and the next both pass
 both_pass : {X : Type 0} (first : Result (Unit {0}) Refusal) (next : Result X Refusal) → is_ok (then first next) ≡ true → (is_ok first ≡ true) × (is_ok next ≡ true)
 both_pass (Ok passed) next e = (refl, e)
 both_pass (Err why) next e = absurd (false≢true e)
 
--- 1 to 16 inputs and 1 to 8 roots
-pub record Sized (inputs roots : ℕ) : Type 0 where
-  pub some_inputs : 1 ≤ inputs
-  pub few_inputs : inputs ≤ 16
-  pub some_roots : 1 ≤ roots
-  pub few_roots : roots ≤ 8
-
-sized : (inputs outputs count : ℕ) → is_ok (sizes inputs outputs count) ≡ true → Sized inputs outputs
-sized inputs outputs count e = record { some_inputs = grind (arith, nat_tests); few_inputs = grind (arith, nat_tests); some_roots = grind (arith, nat_tests); few_roots = grind (arith, nat_tests) }
+sized : (inputs outputs count : ℕ) → is_ok (sizes inputs outputs count) ≡ true → Sizes inputs outputs count
+sized inputs outputs count = by_sizes (λ r. is_ok r ≡ true → Sizes inputs outputs count) inputs outputs count (Ok tt) (λ s ok. s) (λ why bad ok. absurd (false≢true ok))
 
 -- every node keeps the rules
 abbrev pub Fit : ℕ → List Node → Type 0
@@ -41,14 +36,14 @@ module _ (inputs : ℕ) (nodes : List Node) (roots : List ℕ) (k : kept inputs 
       let third = both_pass (root_count (length roots) (length roots)) rooted second.1 in
       (first.0, second.0, third.1)
 
-  pub kept_sized : Sized inputs (length roots)
+  pub kept_sized : Sizes inputs (length roots) (length nodes)
   kept_sized = sized inputs (length roots) (length nodes) passed.0
 
   pub kept_fit : Fit inputs nodes
-  kept_fit place h = rw zero-add at (each_at (fit_node inputs nodes) BadNode 0 nodes passed.1 place no_node h)
+  kept_fit = each_passes (fit_node inputs nodes) BadNode nodes passed.1 no_node
 
   pub kept_root : (o : ℕ) → o < length roots → get_or roots o 0 < 3 + length nodes
-  kept_root o h = let e = each_at (fit_root (length nodes)) BadRoot 0 roots passed.2 o 0 h in grind (arith, nat_tests)
+  kept_root o h = let e = each_passes (fit_root (length nodes)) BadRoot roots passed.2 0 o h in grind (arith, nat_tests)
 
 -- where a branch leads from a node of this level behind a reference: to an earlier reference with a greater level
 pub record Down (inputs : ℕ) (nodes : List Node) (level reference target : ℕ) : Type 0 where

@@ -4,15 +4,11 @@ use Rattle.std.proofs.lemmas.Bool.{eqb-true, eqb-false}
 use Rattle.refusal.specs.declared.table.Refusal.{Refusal}
 use Rattle.refusal.specs.declared.table.Refusal.TheVariants.{BadNode, RootCount, BadRoot}
 use Rattle.design.specs.Checks.{CheckedSays, Sizes}
-use Rattle.design.proofs.Reasons.{each_says, by_sizes}
+use Rattle.design.proofs.Reasons.{by_sizes}
 use Rattle.diagram.specs.declared.node.Node.{Node}
 use Rattle.diagram.specs.Rules.{fit_node, fit_root, each, root_count, then}
+use Rattle.diagram.proofs.Each.{each_tells}
 use Rattle.diagram.specs.Reasons.{NodesFit, Reason, BuildingsHaveReasons, bad_size, bad_node, other_count, bad_root, no_refusal}
-
--- what an answer of the check of nodes or of roots says
-all_say : {X : Type 0} (fit : ℕ → X → Bool) (refuse : ℕ → Refusal) (xs : List X) → CheckedSays fit refuse xs (each fit refuse 0 xs)
-unfolding each
-all_say fit refuse xs = each_says fit refuse (each fit refuse) (λ i. refl) (λ i y ys. refl) xs
 
 module _ (inputs outputs : ℕ) (nodes : List Node) (roots : List ℕ) where
   -- the answer that a check of the table leads to has its reason
@@ -27,7 +23,7 @@ module _ (inputs outputs : ℕ) (nodes : List Node) (roots : List ℕ) where
   counted fit = by (eqb (length roots) outputs) refl
     where
       by : (b : Bool) → eqb (length roots) outputs ≡ b → Reasoned (then (cond b (Ok (tt {0})) (Err (RootCount (length roots)))) (each (fit_root (length nodes)) BadRoot 0 roots))
-      by true e = rooted fit (eqb-true _ _ e) (each (fit_root (length nodes)) BadRoot 0 roots) (all_say (fit_root (length nodes)) BadRoot roots)
+      by true e = rooted fit (eqb-true _ _ e) (each (fit_root (length nodes)) BadRoot 0 roots) (each_tells (fit_root (length nodes)) BadRoot roots)
       by false e = other_count fit (eqb-false _ _ e)
 
   noded : Sizes inputs outputs (length nodes) → (r : Result (Unit {0}) Refusal) → CheckedSays (fit_node inputs nodes) BadNode nodes r
@@ -39,4 +35,4 @@ pub built_reason : BuildingsHaveReasons
 built_reason inputs outputs nodes roots =
     by_sizes (λ r. Reasoned inputs outputs nodes roots (then r (then (each (fit_node inputs nodes) BadNode 0 nodes) (then (root_count outputs (length roots)) (each (fit_root (length nodes)) BadRoot 0 roots)))))
     inputs outputs (length nodes) (Ok tt)
-    (λ sizes. noded inputs outputs nodes roots sizes (each (fit_node inputs nodes) BadNode 0 nodes) (all_say (fit_node inputs nodes) BadNode nodes)) bad_size
+    (λ sizes. noded inputs outputs nodes roots sizes (each (fit_node inputs nodes) BadNode 0 nodes) (each_tells (fit_node inputs nodes) BadNode nodes)) bad_size

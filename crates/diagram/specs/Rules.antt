@@ -1,8 +1,9 @@
 -- The rules of a diagram's table, and the refusal where one is broken: for whoever builds a diagram.
 -- A level is an input's number, and places count from 0.
-use Rattle.std.specs.Prelude.{ℕ, ◌+◌, ◌-◌, Bool, cond, ◌&&◌, ◌||◌, List, [], ◌∷◌, length, is_ok, Ok, Err, Result, ◌==◌, nat_le, nat_lt}
+use Rattle.std.specs.Prelude.{ℕ, ◌+◌, ◌-◌, Bool, cond, ◌&&◌, ◌||◌, List, [], ◌∷◌, length, is_ok, Ok, Err, Result, ◌==◌, nat_lt}
 use Rattle.refusal.specs.declared.table.Refusal.{Refusal}
-use Rattle.refusal.specs.declared.table.Refusal.TheVariants.{Inputs, Outputs, TooMany, BadNode, RootCount, BadRoot}
+use Rattle.refusal.specs.declared.table.Refusal.TheVariants.{BadNode, RootCount, BadRoot}
+use Rattle.design.specs.Checks.{sizes}
 use Rattle.diagram.specs.declared.node.Node.{Node}
 use Rattle.diagram.specs.Walk.{is_mark, node_at}
 
@@ -22,13 +23,6 @@ fit_root nodes output reference = is_mark reference || nat_lt (reference - 3) no
 unfoldable pub each : {X : Type 0} → (ℕ → X → Bool) → (ℕ → Refusal) → ℕ → List X → Result (Unit {0}) Refusal
 each fit refuse place [] = Ok tt
 each fit refuse place (x ∷ xs) = cond (fit place x) (each fit refuse (place + 1) xs) (Err (refuse place))
-
--- 1 to 16 inputs, 1 to 8 outputs, at most 4,096 nodes
-abbrev pub sizes : ℕ → ℕ → ℕ → Result (Unit {0}) Refusal
-sizes inputs outputs count =
-    cond (nat_le 1 inputs && nat_le inputs 16)
-    (cond (nat_le 1 outputs && nat_le outputs 8) (cond (nat_le count 4096) (Ok tt) (Err (TooMany count))) (Err Outputs))
-    (Err Inputs)
 
 -- one root for each output
 abbrev pub root_count : ℕ → ℕ → Result (Unit {0}) Refusal

@@ -1,12 +1,13 @@
 // Building a diagram: the rules of its table, in the order in which they are tried.
 ghost use Rattle.std.specs.Prelude.{◌≡◌, ℕ, ◌≤◌, length};
 ghost use Rattle.refusal.specs.declared.table.Refusal.TheVariants.{BadNode, BadRoot};
-ghost use Rattle.diagram.specs.Rules.{fit_branch, fit_node, fit_root, each, sizes, root_count};
+ghost use Rattle.diagram.specs.Rules.{fit_branch, fit_node, fit_root, each, root_count};
 ghost use Rattle.diagram.specs.Meaning.{tabled, built};
 
 use crate::node::Node;
 use crate::table::Diagram;
 use crate::target::Target;
+use design::check_sizes;
 use refusal::Refusal;
 
 impl Diagram {
@@ -29,22 +30,6 @@ impl Diagram {
             roots,
         })
     }
-}
-
-// Refuses a table for its sizes.
-fn check_sizes(inputs: u32, outputs: u32, count: usize) -> Result<(), Refusal>
-    ensures { result ≡ sizes inputs outputs count }
-{
-    if inputs < 1 || inputs > 16 {
-        return Err(Refusal::Inputs);
-    }
-    if outputs < 1 || outputs > 8 {
-        return Err(Refusal::Outputs);
-    }
-    if count > 4096 {
-        return Err(Refusal::TooMany { count });
-    }
-    Ok(())
 }
 
 // Refuses a list of roots that has not one for each output.
