@@ -1,6 +1,5 @@
 -- What a decision diagram says of a row, and when its table is one: for every contract of this crate.
 pub mod Walk
-pub mod Targets
 pub mod Rules
 pub mod Meaning
 pub mod Counting

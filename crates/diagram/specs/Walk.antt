@@ -4,6 +4,8 @@ use Rattle.std.specs.Prelude.{ℕ, zero, suc, ◌-◌, ◌/◌, ◌%◌, ◌^◌
 use Rattle.design.specs.declared.mark.Mark.{Mark}
 use Rattle.design.specs.declared.mark.Mark.TheVariants.{Zero, One, DontCare}
 use Rattle.diagram.specs.declared.node.Node.{Node}
+use Rattle.diagram.specs.declared.target.Target.{Target}
+use Rattle.diagram.specs.declared.target.Target.TheVariants as to
 
 -- the reference is a mark
 abbrev pub is_mark : ℕ → Bool
@@ -12,6 +14,10 @@ is_mark reference = nat_lt reference 3
 -- the mark that a reference below 3 is
 abbrev pub mark_of : ℕ → Mark
 mark_of reference = cond (reference == 0) Zero (cond (reference == 1) One DontCare)
+
+-- where a reference leads: to a mark, or to the node at a place
+abbrev pub target : ℕ → Target
+target reference = cond (is_mark reference) (to.Mark (mark_of reference)) (to.Node (reference - 3))
 
 -- stands for a node where there is none
 abbrev pub no_node : Node

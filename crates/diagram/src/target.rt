@@ -1,6 +1,6 @@
 // What the references of a table lead to.
 ghost use Rattle.std.specs.Prelude.{◌≡◌};
-ghost use Rattle.diagram.specs.Targets.{target};
+ghost use Rattle.diagram.specs.Walk.{target};
 
 use design::Mark;
 
