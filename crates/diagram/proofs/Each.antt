@@ -1,9 +1,8 @@
 -- A list is checked by a search for the first element that does not pass.
-use Rattle.std.proofs.Common.{◌≡◌, ℕ, ◌+◌, Bool, true, false, not, cond, List, [], ◌∷◌, is_ok, Some, None, Option, Ok, Err, Result, refl}
-use Rattle.std.proofs.lemmas.Bool.{false≢true}
+use Rattle.std.proofs.Common.{◌≡◌, ℕ, ◌+◌, Bool, true, false, not, cond, List, [], ◌∷◌, Some, None, Option, Ok, Err, Result, refl}
 use Rattle.std.specs.List.{position_from, enumerate_from}
 use Rattle.refusal.specs.declared.table.Refusal.{Refusal}
-use Rattle.design.specs.Checks.{Every, CheckedSays}
+use Rattle.design.specs.Checks.{CheckedSays}
 use Rattle.design.proofs.Reasons.{each_says}
 use Rattle.diagram.specs.Rules.{each}
 
@@ -33,11 +32,3 @@ each_first_placed fit refuse start (x ∷ xs) = checked refuse start (fit start 
 pub each_tells : {X : Type 0} (fit : ℕ → X → Bool) (refuse : ℕ → Refusal) (xs : List X) → CheckedSays fit refuse xs (each fit refuse 0 xs)
 unfolding each
 each_tells fit refuse xs = each_says fit refuse (each fit refuse) (λ i. refl) (λ i y ys. refl) xs
-
--- where the whole list passes, each element passes at its place
-pub each_passes : {X : Type 0} (fit : ℕ → X → Bool) (refuse : ℕ → Refusal) (xs : List X) → is_ok (each fit refuse 0 xs) ≡ true → Every fit xs
-each_passes {X} fit refuse xs = by (each fit refuse 0 xs) (each_tells fit refuse xs)
-  where
-    by : (r : Result (Unit {0}) Refusal) → CheckedSays fit refuse xs r → is_ok r ≡ true → Every fit xs
-    by (Ok _) said ok = said
-    by (Err why) said ok = absurd (false≢true ok)

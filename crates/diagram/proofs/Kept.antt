@@ -3,47 +3,45 @@ use Rattle.std.proofs.Common.{◌≡◌, ℕ, ◌+◌, ◌-◌, ◌/◌, ◌%◌
 use Rattle.std.proofs.lemmas.Bool.{false≢true, and_parts, ltb-true, cond_both}
 use Rattle.std.proofs.lemmas.Bool.Decides.{nat_tests}
 use Rattle.refusal.specs.declared.table.Refusal.{Refusal}
-use Rattle.refusal.specs.declared.table.Refusal.TheVariants.{BadNode, BadRoot}
-use Rattle.design.specs.Checks.{Sizes, sizes}
-use Rattle.design.proofs.Reasons.{by_sizes}
+use Rattle.design.specs.Checks.{Every, Sizes}
 use Rattle.diagram.specs.declared.node.Node.{Node}
 use Rattle.diagram.specs.Walk.{no_node, node_at, branch}
-use Rattle.diagram.specs.Rules.{fit_branch, fit_node, fit_root, each, root_count, then, kept}
+use Rattle.diagram.specs.Rules.{fit_branch, fit_node, fit_root, then, checked, kept}
+use Rattle.diagram.specs.Meaning.{Table}
+use Rattle.diagram.specs.Reasons.{NodesFit, Reason, bad_size, bad_node, other_count, bad_root, no_refusal}
 use Rattle.diagram.specs.Counting.{level_of}
-use Rattle.diagram.proofs.Each.{each_passes}
-
--- a check and the next both pass
-both_pass : {X : Type 0} (first : Result (Unit {0}) Refusal) (next : Result X Refusal) → is_ok (then first next) ≡ true → (is_ok first ≡ true) × (is_ok next ≡ true)
-both_pass (Ok passed) next e = (refl, e)
-both_pass (Err why) next e = absurd (false≢true e)
-
-sized : (inputs outputs count : ℕ) → is_ok (sizes inputs outputs count) ≡ true → Sizes inputs outputs count
-sized inputs outputs count = by_sizes (λ r. is_ok r ≡ true → Sizes inputs outputs count) inputs outputs count (Ok tt) (λ s ok. s) (λ why bad ok. absurd (false≢true ok))
+use Rattle.diagram.proofs.Reasons.{built_reason}
 
 -- every node keeps the rules
 abbrev pub Fit : ℕ → List Node → Type 0
 Fit inputs nodes = (place : ℕ) → place < length nodes → fit_node inputs nodes place (get_or nodes place no_node) ≡ true
 
+-- a check that passes leads to the answer that it stands before
+passed : {X : Type 0} (check : Result (Unit {0}) Refusal) (answer : X) → is_ok check ≡ true → is_ok (then check (Ok answer)) ≡ true
+passed (Ok _) answer ok = refl
+passed (Err why) answer ok = absurd (false≢true ok)
+
+module _ (inputs outputs : ℕ) (nodes : List Node) (roots : List ℕ) where
+  -- a table that is not refused keeps the rules of nodes, and each root its rule
+  not_refused : {r : Result Table Refusal} → Reason inputs outputs nodes roots r → is_ok r ≡ true → NodesFit inputs outputs nodes × Every (fit_root (length nodes)) roots
+  not_refused (bad_size why bad) ok = absurd (false≢true ok)
+  not_refused (bad_node p sizes lowest) ok = absurd (false≢true ok)
+  not_refused (other_count fit other) ok = absurd (false≢true ok)
+  not_refused (bad_root o fit same lowest) ok = absurd (false≢true ok)
+  not_refused (no_refusal fit same rooted) ok = (fit, rooted)
+
 module _ (inputs : ℕ) (nodes : List Node) (roots : List ℕ) (k : kept inputs nodes roots ≡ true) where
-  -- the checks of sizes, nodes and roots, each passed
-  passed : (is_ok (sizes inputs (length roots) (length nodes)) ≡ true) × (is_ok (each (fit_node inputs nodes) BadNode 0 nodes) ≡ true) × (is_ok (each (fit_root (length nodes)) BadRoot 0 roots) ≡ true)
-  passed =
-      let rooted : Result (Unit {0}) Refusal = each (fit_root (length nodes)) BadRoot 0 roots in
-      let counted : Result (Unit {0}) Refusal = then (root_count (length roots) (length roots)) rooted in
-      let noded : Result (Unit {0}) Refusal = each (fit_node inputs nodes) BadNode 0 nodes in
-      let first = both_pass (sizes inputs (length roots) (length nodes)) (then noded counted) k in
-      let second = both_pass noded counted first.1 in
-      let third = both_pass (root_count (length roots) (length roots)) rooted second.1 in
-      (first.0, second.0, third.1)
+  rules : NodesFit inputs (length roots) nodes × Every (fit_root (length nodes)) roots
+  rules = not_refused inputs (length roots) nodes roots (built_reason inputs (length roots) nodes roots) (passed (checked inputs (length roots) nodes roots) _ k)
 
   pub kept_sized : Sizes inputs (length roots) (length nodes)
-  kept_sized = sized inputs (length roots) (length nodes) passed.0
+  kept_sized = rules.0.sizes
 
   pub kept_fit : Fit inputs nodes
-  kept_fit = each_passes (fit_node inputs nodes) BadNode nodes passed.1 no_node
+  kept_fit = rules.0.fit no_node
 
   pub kept_root : (o : ℕ) → o < length roots → get_or roots o 0 < 3 + length nodes
-  kept_root o h = let e = each_passes (fit_root (length nodes)) BadRoot roots passed.2 0 o h in grind (arith, nat_tests)
+  kept_root o h = let e = rules.1 0 o h in grind (arith, nat_tests)
 
 -- where a branch leads from a node of this level behind a reference: to an earlier reference with a greater level
 pub record Down (inputs : ℕ) (nodes : List Node) (level reference target : ℕ) : Type 0 where
