@@ -6,4 +6,5 @@ pub mod Counting
 pub mod Spots
 pub mod Figures
 pub mod Reasons
+pub mod Same
 pub mod Theorems

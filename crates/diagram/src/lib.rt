@@ -2,6 +2,7 @@
 #![tactic(auto)]
 
 mod node;
+mod same;
 mod table;
 mod target;
 mod theorems;

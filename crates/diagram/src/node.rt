@@ -3,7 +3,7 @@
 // Tests the input numbered `level`: a row at which it is 1 goes on at `high`, any other at `low`.
 // The branches are references, as 32 bits each and not as a `Target`: the table is the customer's format, in
 // which any number may come and nodes are shared, as boxed branches could not be.
-#[derive(Clone, Copy, PartialEq, Eq, Debug)]
+#[derive(Clone, Copy, PartialEq, Eq, Debug, Default)]
 pub struct Node {
     pub level: u32,
     pub low: u32,

@@ -1,7 +1,6 @@
 -- Lemmas on the definitions of specs/.
 pub mod Pages
 pub mod Rooms
-pub mod Buffers
 pub mod Digits
 pub mod Searches
 pub mod Pushes

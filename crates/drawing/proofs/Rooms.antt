@@ -14,6 +14,10 @@ tri_le : (n d : ℕ) → tri n ≤ tri (d + n)
 tri_le n zero = let e : zero + n ≡ n = omega arith in rw e (omega arith)
 tri_le n (suc d) = let e : suc d + n ≡ suc (d + n) = omega arith in let ih = tri_le n d in let m = tri_more (d + n) in rw e (omega arith)
 
+pub tri_ge : (n : ℕ) → n ≤ tri n
+tri_ge zero = omega arith
+tri_ge (suc m) = omega (arith, tri_more m)
+
 tri_sixteen : tri 16 ≡ 136
 unfolding tri
 tri_sixteen = refl

@@ -5,7 +5,8 @@ use Rattle.std.proofs.lemmas.Bool.Decides.{nat_tests}
 use Rattle.design.specs.Search.{later, first_place}
 use Rattle.diagram.specs.declared.node.Node.{Node}
 use Rattle.diagram.specs.Walk.{no_node}
-use Rattle.drawing.specs.Pieces.{same_node, place_of}
+use Rattle.diagram.specs.Same.{same_node}
+use Rattle.drawing.specs.Pieces.{place_of}
 
 same_is : (a b : Node) → same_node a b ≡ true → a ≡ b
 same_is a b e =

@@ -4,7 +4,7 @@ use Rattle.std.proofs.lemmas.List.{length_push}
 use Rattle.std.proofs.lemmas.Bool.{cond_both}
 use Rattle.diagram.specs.declared.node.Node.{Node}
 use Rattle.drawing.specs.Pieces.{Draft, piece, all_ones, settled, node_of, place_of, with_piece, with_pieces, with_levels, drawn}
-use Rattle.drawing.proofs.Rooms.{tri, tri_more, tri_fits}
+use Rattle.drawing.proofs.Rooms.{tri, tri_more, tri_ge, tri_fits}
 
 -- at most one node more
 abbrev AddsOne : Draft → Draft → Type 0
@@ -19,12 +19,12 @@ piece_adds inputs bits level k d =
     cond_both (eqb (piece inputs bits level k) 0) _ _ (λ x. AddsOne d x) (λ _. omega arith)
     (λ _. cond_both (eqb (piece inputs bits level k) (all_ones inputs level)) _ _ (λ x. AddsOne d x) (λ _. omega arith) (λ _. settled_adds k (node_of level k d) (place_of (node_of level k d) d.nodes) d))
 
-pieces_add : (inputs bits level k : ℕ) (d : Draft) → length (with_pieces inputs bits level k d).nodes ≤ length d.nodes + k
+pub pieces_add : (inputs bits level k : ℕ) (d : Draft) → length (with_pieces inputs bits level k d).nodes ≤ length d.nodes + k
 unfolding with_pieces
 pieces_add inputs bits level zero d = omega arith
 pieces_add inputs bits level (suc k) d = let i = pieces_add inputs bits level k d in let p = piece_adds inputs bits level k (with_pieces inputs bits level k d) in omega arith
 
-levels_add : (inputs bits done : ℕ) → done ≤ inputs → length (with_levels inputs bits done).nodes + tri (inputs - done) ≤ tri inputs
+pub levels_add : (inputs bits done : ℕ) → done ≤ inputs → length (with_levels inputs bits done).nodes + tri (inputs - done) ≤ tri inputs
 unfolding with_levels
 levels_add inputs bits zero h = let e : inputs - zero ≡ inputs = omega arith in rw e (omega arith)
 levels_add inputs bits (suc done) h =
@@ -34,6 +34,13 @@ levels_add inputs bits (suc done) h =
     let p = pieces_add inputs bits left (left + 1) (with_levels inputs bits done) in
     let m = tri_more left in omega arith
 
+-- of 16 inputs and fewer, before a level is drawn there is room for all its pieces
+pub room_left : (inputs bits level : ℕ) → inputs ≤ 16 → level ≤ inputs → length (with_levels inputs bits (inputs - level)).nodes + level ≤ 136
+room_left inputs bits level few h =
+    let e : inputs - (inputs - level) ≡ level = omega arith in
+    let a = rw e at (levels_add inputs bits (inputs - level) (omega arith)) in
+    omega (arith, tri_fits inputs few, tri_ge level)
+
 -- of 16 inputs and fewer, at most 136
 pub few_nodes : (inputs bits : ℕ) → inputs ≤ 16 → length (drawn inputs bits).nodes ≤ 136
-few_nodes inputs bits h = let a = levels_add inputs bits inputs (omega arith) in let t = tri_fits inputs h in omega arith
+few_nodes inputs bits few = let e : inputs - 0 ≡ inputs = omega arith in let r = rw e at (room_left inputs bits 0 few (omega arith)) in omega arith

@@ -3,3 +3,4 @@ pub mod Pieces
 pub mod Page
 pub mod Reduced
 pub mod Figures
+pub mod Text

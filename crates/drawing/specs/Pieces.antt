@@ -1,10 +1,11 @@
 -- The rule by which a symmetric function is drawn, piece by piece: for whoever draws one.
 -- The piece (level, k) is the values at the weights k to k + inputs - level: those still possible once k of the inputs before the level are one.
-use Rattle.std.specs.Prelude.{ℕ, zero, suc, ◌+◌, ◌-◌, ◌/◌, ◌%◌, ◌^◌, Bool, cond, ◌&&◌, List, [], ◌∷◌, ◌++◌, length, drop, Some, None, Ok, Err, Option, Result, ◌==◌, nat_lt}
+use Rattle.std.specs.Prelude.{ℕ, zero, suc, ◌+◌, ◌-◌, ◌/◌, ◌%◌, ◌^◌, cond, List, [], ◌∷◌, ◌++◌, length, drop, Some, None, Ok, Err, Option, Result, ◌==◌, nat_lt}
 use Rattle.refusal.specs.declared.table.Refusal.{Refusal}
 use Rattle.refusal.specs.declared.table.Refusal.TheVariants.{NodesShort}
 use Rattle.design.specs.Search.{first_place}
 use Rattle.diagram.specs.declared.node.Node.{Node}
+use Rattle.diagram.specs.Same.{same_node}
 use Rattle.symmetric.specs.Vectors.{Values}
 use Rattle.drawing.specs.declared.drawn.Drawn.{Drawn}
 
@@ -15,10 +16,6 @@ piece inputs bits level k = bits / 2 ^ k % 2 ^ (inputs - level + 1)
 -- the piece of a level whose values are all one
 abbrev pub all_ones : ℕ → ℕ → ℕ
 all_ones inputs level = 2 ^ (inputs - level + 1) - 1
-
--- two nodes meet if they are equal
-abbrev pub same_node : Node → Node → Bool
-same_node a b = a.level == b.level && (a.low == b.low && a.high == b.high)
 
 -- a drawing under way: the nodes placed, and for each k the reference of a piece;
 -- while a level is drawn, those before k are its own and the others still those of the level after it

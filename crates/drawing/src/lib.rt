@@ -5,8 +5,6 @@ mod buffer;
 mod drawn;
 mod fill;
 mod page;
-mod placed;
-mod search;
 mod theorems;
 
 pub use buffer::draw;

@@ -1,26 +1,16 @@
-use Rattle.std.proofs.Common.{◌≡◌, ◌+◌, sym, refl, ap, ◌∙◌, add-one, arith}
+use Rattle.std.proofs.Common.{◌≡◌, length, ap, add-one, arith}
+use Rattle.drawing.specs.Pieces.{with_pieces}
 use Rattle.drawing.specs.Page.{draft}
-use Rattle.drawing.specs.Pieces.{with_piece, with_pieces}
+use Rattle.drawing.proofs.Sizes.{pieces_add}
 use Rattle.drawing.proofs.page.Page.draw_level.Goals as goal
 
-pub draw_piece-requires : goal.draw_piece-requires
-draw_piece-requires c = let k = c.loop-k.invariant.1 in (omega arith, (omega arith, (omega arith, omega arith)))
+pub draw_piece-requires-clause-room : goal.draw_piece-requires-clause-room
+draw_piece-requires-clause-room c =
+    let v = c.args.vector.now in
+    let few = pieces_add v.inputs v.bits c.args.level c.loop-k.k (draft c.args.self.now) in
+    let drawn = ap (λ d. length d.nodes) c.loop-k.invariant in
+    omega arith
 
-pub loop-k-init : goal.loop-k-init
+pub returns-2 : goal.returns-2
 unfolding with_pieces
-loop-k-init c = (refl, omega arith)
-
-pub loop-k-preserved : goal.loop-k-preserved
-unfolding with_pieces
-loop-k-preserved c = (
-  c.draw_piece.ensures.drawing ∙ (ap (λ d. with_piece c.args.inputs c.args.bits c.args.level c.loop-k.k d) c.loop-k.invariant.0 ∙ sym (ap (λ n. with_pieces c.args.inputs c.args.bits c.args.level n (draft c.args.self.now)) (add-one c.loop-k.k))),
-  let r = c.draw_piece.ensures.room in let k = c.loop-k.invariant.1 in omega arith,
-)
-
-pub returns : goal.returns
-returns c =
-    let last : c.loop-k.k ≡ c.args.level + 1 = omega arith in
-    record {
-      drawing = c.loop-k.invariant.0 ∙ ap (λ n. with_pieces c.args.inputs c.args.bits c.args.level n (draft c.args.self.now)) last;
-      room = let k = c.loop-k.invariant.1 in omega arith;
-    }
+returns-2 c = let last : c.loop-k.k ≡ c.args.level = omega arith in rw add-one (cc)
