@@ -2,13 +2,14 @@
 use Rattle.std.proofs.Common.{◌≡◌, ℕ, zero, suc, ◌+◌, ◌-◌, ◌/◌, ◌%◌, ◌^◌, ◌<◌, ◌≤◌, [], sym, ap, ◌∙◌, subst, add-zero, zero-add, div-one, arith}
 use native.Mathlib.Nat.{div-eq_of_lt}
 use lib.Count.{ones}
+use Rattle.std.specs.Int.{bit_at}
 use Rattle.std.proofs.lemmas.Bool.Decides.{nat_tests}
 use Rattle.diagram.specs.Walk.{mark_of}
 use Rattle.diagram.proofs.Reading.{read_mark, level_mark}
 use Rattle.symmetric.specs.Vectors.{value}
 use Rattle.drawing.specs.Pieces.{Draft, blank, with_pieces, with_levels, drawn}
 use Rattle.drawing.specs.Reduced.{marked, Leads, Reduced}
-use Rattle.drawing.proofs.Levels.{val, Whole, Midway}
+use Rattle.drawing.proofs.Levels.{Whole, Midway}
 use Rattle.drawing.proofs.Steps.{step}
 use Rattle.drawing.proofs.Ends.{begun, ended}
 
@@ -22,12 +23,12 @@ blank_whole inputs bits =
     record {
       table = record { fit = λ place h. absurd (omega arith); decides = λ place h. absurd (omega arith); once = λ place other h. absurd (omega arith) };
       own = λ i h.
-          let small : val bits i < 3 = omega arith in
-          let deep = level_mark inputs [] (val bits i) small in
+          let small : bit_at bits i < 3 = omega arith in
+          let deep = level_mark inputs [] (bit_at bits i) small in
           record {
             valid = omega arith;
             deep = omega arith;
-            reads = λ row fits. read_mark [] row inputs (val bits i) small ∙ sym (ap (λ n. mark_of (val bits (i + n))) (none_left inputs row fits) ∙ ap (λ n. mark_of (val bits n)) (add-zero i));
+            reads = λ row fits. read_mark [] row inputs (bit_at bits i) small ∙ sym (ap (λ n. mark_of (bit_at bits (i + n))) (none_left inputs row fits) ∙ ap (λ n. mark_of (bit_at bits n)) (add-zero i));
             flat = λ alike. small;
           };
       led = λ place h. absurd (omega arith);
@@ -50,7 +51,7 @@ levels_whole inputs bits (suc done) h =
     ended inputs bits level d.refers (with_pieces inputs bits level (level + 1) d) (omega arith)
     (pieces_midway inputs bits level d (omega arith) before (level + 1) (omega arith))
 
-value_marked : (bits w : ℕ) → mark_of (val bits w) ≡ marked (value bits w)
+value_marked : (bits w : ℕ) → mark_of (bit_at bits w) ≡ marked (value bits w)
 value_marked bits w = let two : bits / 2 ^ w % 2 < 2 = omega arith in grind (arith, nat_tests)
 
 pub reduced : (inputs bits : ℕ) → Reduced inputs bits (drawn inputs bits)
@@ -59,7 +60,7 @@ reduced inputs bits =
     let d : Draft = with_levels inputs bits inputs in
     let whole : Whole inputs bits 0 d = subst (λ l. Whole inputs bits l d) all (levels_whole inputs bits inputs (omega arith)) in
     record {
-      computes = λ row h. (whole.own 0 (omega arith)).reads row h ∙ ap (λ w. mark_of (val bits w)) (zero-add (ones (row / 1)) ∙ ap ones (div-one row)) ∙ value_marked bits (ones row);
+      computes = λ row h. (whole.own 0 (omega arith)).reads row h ∙ ap (λ w. mark_of (bit_at bits w)) (zero-add (ones (row / 1)) ∙ ap ones (div-one row)) ∙ value_marked bits (ones row);
       rooted = (whole.own 0 (omega arith)).valid;
       ordered = whole.table.fit;
       decides = whole.table.decides;

@@ -1,47 +1,29 @@
--- A number of so many digits by its digits: all of them zero, all of them one, all of them alike.
-use Rattle.std.proofs.Common.{◌≡◌, ℕ, zero, suc, ◌+◌, ◌-◌, ◌*◌, ◌/◌, ◌%◌, ◌^◌, ◌<◌, ◌⊎◌, sym, ap, ◌∙◌, inl, inr, ⊎_elim, arith, pow_pos}
-use Rattle.std.proofs.lemmas.Nat.{shr-shr, mod-pow-add}
+-- The low digits of a number: all of them zero, all of them one, all of them alike.
+use Rattle.std.proofs.Common.{◌≡◌, ℕ, ◌-◌, ◌/◌, ◌%◌, ◌^◌, ◌<◌, ◌⊎◌, sym, ap, ◌∙◌, inl, inr, ⊎_elim, arith, pow_pos}
+use Rattle.std.specs.Int.{bit_at}
+use Rattle.std.proofs.lemmas.Nat.{div-add-mod'}
+use Rattle.std.proofs.lemmas.Nat.Bits.{bit_at-zero, bit_at_ones, bit_at-lt, bit_at_cat_low, same_from_bits_below}
+use Rattle.std.proofs.lemmas.Bool.{cases_lt}
 
-low_split : (x m : ℕ) → x % 2 ^ suc m ≡ (x / 2 % 2 ^ m) * 2 + x % 2
-low_split x m = let e : suc m ≡ m + 1 = omega arith in rw e (mod-pow-add x m 1)
+-- below m the digits are those of the rest
+low : (m x w : ℕ) → w < m → bit_at x w ≡ bit_at (x % 2 ^ m) w
+low m x w h = ap (λ y. bit_at y w) (sym (div-add-mod' x (2 ^ m))) ∙ bit_at_cat_low (x / 2 ^ m) m (x % 2 ^ m) w h
 
-shr_more : (x w : ℕ) → x / 2 ^ suc w ≡ x / 2 / 2 ^ w
-shr_more x w = let e : suc w ≡ 1 + w = omega arith in rw e (sym (shr-shr x 1 w))
+pub digits_zero : (m x w : ℕ) → x % 2 ^ m ≡ 0 → w < m → bit_at x w ≡ 0
+digits_zero m x w e h = low m x w h ∙ ap (λ y. bit_at y w) e ∙ bit_at-zero w
 
-pub digits_zero : (m x w : ℕ) → x % 2 ^ m ≡ 0 → w < m → x / 2 ^ w % 2 ≡ 0
-digits_zero zero x w e h = absurd (omega arith)
-digits_zero (suc m) x zero e h = let s = low_split x m in omega arith
-digits_zero (suc m) x (suc w) e h = let s = low_split x m in ap (λ q. q % 2) (shr_more x w) ∙ digits_zero m (x / 2) w (omega arith) (omega arith)
+pub digits_one : (m x w : ℕ) → x % 2 ^ m ≡ 2 ^ m - 1 → w < m → bit_at x w ≡ 1
+digits_one m x w e h = low m x w h ∙ ap (λ y. bit_at y w) e ∙ bit_at_ones m w h
 
-pub digits_one : (m x w : ℕ) → x % 2 ^ m ≡ 2 ^ m - 1 → w < m → x / 2 ^ w % 2 ≡ 1
-digits_one zero x w e h = absurd (omega arith)
-digits_one (suc m) x zero e h = let s = low_split x m in let p = pow_pos m in omega arith
-digits_one (suc m) x (suc w) e h = let s = low_split x m in let p = pow_pos m in ap (λ q. q % 2) (shr_more x w) ∙ digits_one m (x / 2) w (omega arith) (omega arith)
-
-from_zeros : (m x : ℕ) → ((w : ℕ) → w < m → x / 2 ^ w % 2 ≡ 0) → x % 2 ^ m ≡ 0
-from_zeros zero x each = omega arith
-from_zeros (suc m) x each =
-    let s = low_split x m in
-    let low = each 0 (omega arith) in
-    let rest = from_zeros m (x / 2) (λ w h. sym (ap (λ q. q % 2) (shr_more x w)) ∙ each (suc w) (omega arith)) in
-    omega arith
-
-from_ones : (m x : ℕ) → ((w : ℕ) → w < m → x / 2 ^ w % 2 ≡ 1) → x % 2 ^ m ≡ 2 ^ m - 1
-from_ones zero x each = omega arith
-from_ones (suc m) x each =
-    let s = low_split x m in
-    let p = pow_pos m in
-    let low = each 0 (omega arith) in
-    let rest = from_ones m (x / 2) (λ w h. sym (ap (λ q. q % 2) (shr_more x w)) ∙ each (suc w) (omega arith)) in
-    omega arith
+from_each : (m x y : ℕ) → y < 2 ^ m → ((w : ℕ) → w < m → bit_at x w ≡ bit_at y w) → x % 2 ^ m ≡ y
+from_each m x y fits each = let p = pow_pos m in same_from_bits_below m (x % 2 ^ m) y (omega arith) fits (λ w h. sym (low m x w h) ∙ each w h)
 
 -- all digits as the lowest one
-pub from_alike : (m x : ℕ) → ((w : ℕ) → w < m → x / 2 ^ w % 2 ≡ x / 2 ^ 0 % 2) → (x % 2 ^ m ≡ 0) ⊎ (x % 2 ^ m ≡ 2 ^ m - 1)
+pub from_alike : (m x : ℕ) → ((w : ℕ) → w < m → bit_at x w ≡ bit_at x 0) → (x % 2 ^ m ≡ 0) ⊎ (x % 2 ^ m ≡ 2 ^ m - 1)
 from_alike m x each =
+    let p = pow_pos m in
+    let b = bit_at-lt x 0 in
     ⊎_elim
-    (λ z. inl (from_zeros m x (λ w h. each w h ∙ z)))
-    (λ o. inr (from_ones m x (λ w h. each w h ∙ o)))
-    (low (x / 2 ^ 0))
-  where
-    low : (q : ℕ) → (q % 2 ≡ 0) ⊎ (q % 2 ≡ 1)
-    low q = grind arith
+    (λ less. inl (from_each m x 0 (omega arith) (λ w h. each w h ∙ omega arith ∙ sym (bit_at-zero w))))
+    (λ more. inr (from_each m x (2 ^ m - 1) (omega arith) (λ w h. each w h ∙ omega arith ∙ sym (bit_at_ones m w h))))
+    (cases_lt (bit_at x 0) 1)

@@ -1,20 +1,21 @@
 -- What holds of a drawing under way: after each level, and after each piece of a level.
-use Rattle.std.proofs.Common.{◌≡◌, ℕ, ◌+◌, ◌-◌, ◌/◌, ◌%◌, ◌^◌, ◌<◌, ◌≤◌, ◌≢◌, ◌⊎◌, List, length, get_or}
+use Rattle.std.proofs.Common.{◌≡◌, ℕ, ◌+◌, ◌-◌, ◌/◌, ◌^◌, ◌<◌, ◌≤◌, ◌≢◌, ◌⊎◌, List, length, get_or}
 use lib.Count.{ones}
+use Rattle.std.specs.Int.{bit_at}
 use Rattle.diagram.specs.declared.node.Node.{Node}
 use Rattle.diagram.specs.Walk.{mark_of, no_node, read}
 use Rattle.diagram.specs.Counting.{level_of}
 use Rattle.diagram.proofs.Kept.{Fit}
-use Rattle.drawing.specs.Pieces.{piece, all_ones, Draft}
+use Rattle.drawing.specs.Pieces.{Draft}
 use Rattle.drawing.specs.Reduced.{Leads}
 
--- the value at a weight, as a number
-abbrev pub val : ℕ → ℕ → ℕ
-val bits w = bits / 2 ^ w % 2
+-- every value of the piece (level, i) is c
+abbrev pub Holds : ℕ → ℕ → ℕ → ℕ → ℕ → Type 0
+Holds inputs bits level i c = (w : ℕ) → w ≤ inputs - level → bit_at bits (i + w) ≡ c
 
 -- the piece (level, i) is constant
 abbrev pub Alike : ℕ → ℕ → ℕ → ℕ → Type 0
-Alike inputs bits level i = (w : ℕ) → w ≤ inputs - level → val bits (i + w) ≡ val bits i
+Alike inputs bits level i = Holds inputs bits level i (bit_at bits i)
 
 -- what holds of the nodes by themselves
 pub record Table (inputs : ℕ) (nodes : List Node) : Type 0 where
@@ -26,7 +27,7 @@ pub record Table (inputs : ℕ) (nodes : List Node) : Type 0 where
 pub record Refers (inputs bits level : ℕ) (nodes : List Node) (i r : ℕ) : Type 0 where
   pub valid : r < 3 + length nodes
   pub deep : level ≤ level_of inputs nodes r
-  pub reads : (row : ℕ) → row < 2 ^ inputs → read nodes row inputs r ≡ mark_of (val bits (i + ones (row / 2 ^ level)))
+  pub reads : (row : ℕ) → row < 2 ^ inputs → read nodes row inputs r ≡ mark_of (bit_at bits (i + ones (row / 2 ^ level)))
   pub flat : Alike inputs bits level i → r < 3
 
 -- a level is drawn
@@ -39,11 +40,10 @@ pub record Whole (inputs bits level : ℕ) (d : Draft) : Type 0 where
 abbrev pub over : ℕ → (ℕ → ℕ) → ℕ → Node
 over level old i = record { level = level; low = old i; high = old (i + 1) }
 
--- how the piece (level, i) came to its reference
+-- how the piece (level, i) came to its reference: the mark of its one value, or its node
 pub data Own (inputs bits level : ℕ) (old : ℕ → ℕ) (nodes : List Node) (i r : ℕ) : Type 0 where
-  as_zero : piece inputs bits level i ≡ 0 → r ≡ 0 → Own inputs bits level old nodes i r
-  as_one : piece inputs bits level i ≡ all_ones inputs level → r ≡ 1 → Own inputs bits level old nodes i r
-  as_node : (place : ℕ) → place < length nodes → r ≡ 3 + place → get_or nodes place no_node ≡ over level old i → (piece inputs bits level i ≡ 0 → ⊥) → (piece inputs bits level i ≡ all_ones inputs level → ⊥) → Own inputs bits level old nodes i r
+  as_mark : (c : ℕ) → c < 2 → Holds inputs bits level i c → r ≡ c → Own inputs bits level old nodes i r
+  as_node : (place : ℕ) → place < length nodes → r ≡ 3 + place → get_or nodes place no_node ≡ over level old i → (Alike inputs bits level i → ⊥) → Own inputs bits level old nodes i r
 
 -- a node is led to from the level after, or is one of the level's own
 abbrev pub Led : ℕ → ℕ → (ℕ → ℕ) → Draft → ℕ → Type 0

@@ -20,8 +20,8 @@ module _ (nodes : List Node) (x : Node) where
   pub at_old : (place : ℕ) → place < length nodes → get_or (nodes ++ x ∷ []) place no_node ≡ get_or nodes place no_node
   at_old place h = get_or_append_left nodes (x ∷ []) no_node place h
 
-  pub at_last : get_or (nodes ++ x ∷ []) (length nodes) no_node ≡ x
-  at_last = get_or_push nodes x no_node (length nodes) refl
+  pub at_last : (place : ℕ) → length nodes ≡ place → get_or (nodes ++ x ∷ []) place no_node ≡ x
+  at_last place e = get_or_push nodes x no_node place e
 
   pub node_same : (reference : ℕ) → 3 ≤ reference → reference < 3 + length nodes → node_at (nodes ++ x ∷ []) reference ≡ node_at nodes reference
   node_same reference node valid = at_old (reference - 3) (omega arith)
@@ -42,7 +42,7 @@ module _ (nodes : List Node) (x : Node) where
   fit_push inputs fit new =
       place_cases (λ place. fit_node inputs (nodes ++ x ∷ []) place (get_or (nodes ++ x ∷ []) place no_node) ≡ true) nodes x
       (λ place h. node_fits_same inputs place (get_or (nodes ++ x ∷ []) place no_node) (omega arith) ∙ ap (λ y. fit_node inputs nodes place y) (at_old place h) ∙ fit place h)
-      (node_fits_same inputs (length nodes) (get_or (nodes ++ x ∷ []) (length nodes) no_node) (omega arith) ∙ ap (λ y. fit_node inputs nodes (length nodes) y) at_last ∙ new)
+      (node_fits_same inputs (length nodes) (get_or (nodes ++ x ∷ []) (length nodes) no_node) (omega arith) ∙ ap (λ y. fit_node inputs nodes (length nodes) y) (at_last (length nodes) refl) ∙ new)
 
   pub level_push : (inputs reference : ℕ) → reference < 3 + length nodes → level_of inputs (nodes ++ x ∷ []) reference ≡ level_of inputs nodes reference
   level_push inputs reference valid =

@@ -1,8 +1,9 @@
 -- What the search for an equal node tells.
-use Rattle.std.proofs.Common.{◌≡◌, ℕ, zero, suc, ◌<◌, Bool, true, false, cond, List, [], ◌∷◌, length, get_or, Some, None, Option, sym, refl, ap, ◌∙◌, subst, add-one, arith}
-use Rattle.std.proofs.lemmas.Bool.{both_ways, and_parts, eqb-true}
+use Rattle.std.proofs.Common.{◌≡◌, ℕ, ◌<◌, true, List, length, get_or, Some, None, Option, sym, subst, arith}
+use Rattle.std.proofs.lemmas.Bool.{both_ways}
 use Rattle.std.proofs.lemmas.Bool.Decides.{nat_tests}
-use Rattle.design.specs.Search.{later, first_place}
+use Rattle.design.specs.Search.{Says}
+use Rattle.design.proofs.First.{first_place_says}
 use Rattle.diagram.specs.declared.node.Node.{Node}
 use Rattle.diagram.specs.Walk.{no_node}
 use Rattle.diagram.specs.Same.{same_node}
@@ -10,14 +11,10 @@ use Rattle.drawing.specs.Pieces.{place_of}
 
 same_is : (a b : Node) → same_node a b ≡ true → a ≡ b
 same_is a b e =
-    let p = and_parts _ _ e in
-    let q = and_parts _ _ p.1 in
-    let l : a.level ≡ b.level = eqb-true a.level b.level p.0 in
-    let lo : a.low ≡ b.low = eqb-true a.low b.low q.0 in
-    let hi : a.high ≡ b.high = eqb-true a.high b.high q.1 in
-    ap (λ x. record { level = x; low = a.low; high = a.high }) l
-    ∙ ap (λ x. record { level = b.level; low = x; high = a.high }) lo
-    ∙ ap (λ x. record { level = b.level; low = b.low; high = x }) hi
+    let l : a.level ≡ b.level = grind (arith, nat_tests) in
+    let lo : a.low ≡ b.low = grind (arith, nat_tests) in
+    let hi : a.high ≡ b.high = grind (arith, nat_tests) in
+    λ i. record { level = l i; low = lo i; high = hi i }
 
 same_self : (a : Node) → same_node a a ≡ true
 same_self a = grind (arith, nat_tests)
@@ -27,16 +24,9 @@ abbrev pub Stands : Node → List Node → Option ℕ → Type 0
 Stands node nodes (Some place) = (place < length nodes) × (get_or nodes place no_node ≡ node)
 Stands node nodes None = (place : ℕ) → place < length nodes → get_or nodes place no_node ≡ node → ⊥
 
-pub stands : (node : Node) (nodes : List Node) → Stands node nodes (place_of node nodes)
-unfolding first_place
-stands node [] = λ place h e. absurd (omega arith)
-stands node (x ∷ xs) = by (same_node x node) refl (place_of node xs) (stands node xs)
-  where
-    other : same_node x node ≡ false → Stands node xs None → Stands node (x ∷ xs) None
-    other e f zero h q = both_ways (same_node x node) e (subst (λ (y : Node). same_node y node ≡ true) (sym q) (same_self node))
-    other e f (suc place) h q = f place (omega arith) q
+said : (node : Node) (nodes : List Node) (o : Option ℕ) → Says (λ x. same_node x node) nodes o → Stands node nodes o
+said node nodes (Some place) s = (s.within, same_is _ node (s.here no_node))
+said node nodes None s = λ place h e. both_ways _ (s no_node place h) (subst (λ (y : Node). same_node y node ≡ true) (sym e) (same_self node))
 
-    by : (t : Bool) → same_node x node ≡ t → (o : Option ℕ) → Stands node xs o → Stands node (x ∷ xs) (cond t (Some 0) (later o))
-    by true e o f = (omega arith, same_is x node e)
-    by false e (Some place) f = (omega arith, rw add-one f.1)
-    by false e None f = other e f
+pub stands : (node : Node) (nodes : List Node) → Stands node nodes (place_of node nodes)
+stands node nodes = said node nodes (place_of node nodes) (first_place_says (λ x. same_node x node) nodes)

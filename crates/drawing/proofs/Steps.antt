@@ -1,36 +1,35 @@
 -- One piece more keeps what holds midway through a level.
-use Rattle.std.proofs.Common.{◌≡◌, ℕ, suc, ◌+◌, ◌-◌, ◌<◌, ◌≤◌, true, eqb, ◌≢◌, List, [], ◌∷◌, ◌++◌, length, get_or, Some, None, Option, sym, refl, ap, ◌∙◌, subst, inl, inr, ⊎_elim, arith}
+use Rattle.std.proofs.Common.{◌≡◌, ℕ, suc, ◌+◌, ◌-◌, ◌<◌, ◌≤◌, true, eqb, ◌≢◌, List, [], ◌∷◌, ◌++◌, length, get_or, Some, None, Option, sym, refl, ◌∙◌, subst, inl, inr, ⊎_elim, arith}
 use Rattle.std.proofs.lemmas.List.{length_push}
-use Rattle.std.proofs.lemmas.Bool.{cases_lt, cases_eq, lt-ltb, eq-eqb, ne_eqb, cond-true, cond-false, and_from, or_left, or_right}
+use Rattle.std.proofs.lemmas.Bool.{cases_lt, cases_eq, lt-ltb, eqb-true, eqb-false, cond_both, and_from, or_left, or_right}
+use Rattle.std.proofs.lemmas.Bool.Decides.{nat_tests}
 use Rattle.diagram.specs.declared.node.Node.{Node}
 use Rattle.diagram.specs.Walk.{is_mark, no_node, node_at}
 use Rattle.diagram.specs.Rules.{fit_branch, fit_node}
 use Rattle.diagram.specs.Counting.{level_of}
 use Rattle.diagram.proofs.Reading.{level_node}
 use Rattle.drawing.specs.Pieces.{piece, all_ones, Draft, put, referred, settled, place_of, node_of, with_piece}
-use Rattle.drawing.proofs.Levels.{Table, Refers, Own, as_zero, as_one, as_node, over, Led, Midway}
+use Rattle.drawing.proofs.Levels.{Alike, Table, Refers, Own, as_mark, as_node, over, Led, Midway}
 use Rattle.drawing.proofs.Searches.{Stands, stands}
 use Rattle.drawing.proofs.Pushes.{place_cases, at_old, at_last, fit_push, level_push, read_push, leads_push}
-use Rattle.drawing.proofs.Constant.{piece_alike, neighbours_alike}
+use Rattle.drawing.proofs.Constant.{piece_zeros, piece_ones, piece_alike, neighbours_alike}
 
 put_same : (f : ℕ → ℕ) (k r : ℕ) → put f k r k ≡ r
-put_same f k r = cond-true (eqb k k) r (f k) (eq-eqb k k refl)
+put_same f k r = grind (arith, nat_tests)
 
 put_other : (f : ℕ → ℕ) (k r i : ℕ) → i ≢ k → put f k r i ≡ f i
-put_other f k r i ne = cond-false (eqb i k) r (f i) (ne_eqb i k ne)
+put_other f k r i ne = grind (arith, nat_tests)
 
 -- a node that stands nowhere yet, decides something and fits
 module _ (inputs : ℕ) (nodes : List Node) (x : Node) where
   once_push : ((place other : ℕ) → place < length nodes → other < length nodes → get_or nodes place no_node ≡ get_or nodes other no_node → place ≡ other) → Stands x nodes None → (place other : ℕ) → place < length (nodes ++ x ∷ []) → other < length (nodes ++ x ∷ []) → get_or (nodes ++ x ∷ []) place no_node ≡ get_or (nodes ++ x ∷ []) other no_node → place ≡ other
-  once_push once nowhere place other h g =
-      place_cases (λ a. (b : ℕ) → b < length (nodes ++ x ∷ []) → get_or (nodes ++ x ∷ []) a no_node ≡ get_or (nodes ++ x ∷ []) b no_node → a ≡ b) nodes x
-      (λ a less. place_cases (λ b. get_or (nodes ++ x ∷ []) a no_node ≡ get_or (nodes ++ x ∷ []) b no_node → a ≡ b) nodes x
-      (λ b less' e. once a b less less' (sym (at_old nodes x a less) ∙ e ∙ at_old nodes x b less'))
-      (λ e. absurd (nowhere a less (sym (at_old nodes x a less) ∙ e ∙ at_last nodes x))))
-      (place_cases (λ b. get_or (nodes ++ x ∷ []) (length nodes) no_node ≡ get_or (nodes ++ x ∷ []) b no_node → length nodes ≡ b) nodes x
-      (λ b less e. absurd (nowhere b less (sym (at_old nodes x b less) ∙ sym e ∙ at_last nodes x)))
-      (λ e. refl))
-      place h other g
+  once_push once nowhere place other h g e =
+      let n = length_push nodes x in
+      let last : (p : ℕ) → length nodes ≤ p → p < length (nodes ++ x ∷ []) → get_or (nodes ++ x ∷ []) p no_node ≡ x = λ p more less. at_last nodes x p (omega arith) in
+      ⊎_elim
+      (λ a. ⊎_elim (λ b. once place other a b (sym (at_old nodes x place a) ∙ e ∙ at_old nodes x other b)) (λ b. absurd (nowhere place a (sym (at_old nodes x place a) ∙ e ∙ last other b g))) (cases_lt other (length nodes)))
+      (λ a. ⊎_elim (λ b. absurd (nowhere other b (sym (at_old nodes x other b) ∙ sym e ∙ last place a h))) (λ b. omega arith) (cases_lt other (length nodes)))
+      (cases_lt place (length nodes))
 
   pub table_push : Table inputs nodes → fit_node inputs nodes (length nodes) x ≡ true → x.low ≢ x.high → Stands x nodes None → Table inputs (nodes ++ x ∷ [])
   table_push t fits unlike nowhere =
@@ -40,7 +39,7 @@ module _ (inputs : ℕ) (nodes : List Node) (x : Node) where
         decides =
             place_cases (λ place. (get_or (nodes ++ x ∷ []) place no_node).low ≢ (get_or (nodes ++ x ∷ []) place no_node).high) nodes x
             (λ place h. subst (λ (y : Node). y.low ≢ y.high) (sym (at_old nodes x place h)) (t.decides place h))
-            (subst (λ (y : Node). y.low ≢ y.high) (sym (at_last nodes x)) unlike);
+            (subst (λ (y : Node). y.low ≢ y.high) (sym (at_last nodes x (length nodes) refl)) unlike);
         once = once_push t.once nowhere;
       }
 
@@ -58,10 +57,8 @@ module _ (inputs : ℕ) (nodes : List Node) (x : Node) where
       }
 
   pub own_push : (bits level : ℕ) (old : ℕ → ℕ) (i r : ℕ) → Own inputs bits level old nodes i r → Own inputs bits level old (nodes ++ x ∷ []) i r
-  own_push bits level old i r (as_zero e is) = as_zero e is
-  own_push bits level old i r (as_one e is) = as_one e is
-  own_push bits level old i r (as_node place h is node mixed mixed') =
-      let n = length_push nodes x in as_node place (omega arith) is (at_old nodes x place h ∙ node) mixed mixed'
+  own_push bits level old i r (as_mark c small each is) = as_mark c small each is
+  own_push bits level old i r (as_node place h is node mixed) = let n = length_push nodes x in as_node place (omega arith) is (at_old nodes x place h ∙ node) mixed
 
 -- a branch to a reference of a later level fits
 branch_fits : (inputs : ℕ) (nodes : List Node) (level r : ℕ) → r < 3 + length nodes → level + 1 ≤ level_of inputs nodes r → fit_branch nodes (length nodes) level r ≡ true
@@ -101,7 +98,7 @@ module _ (inputs bits level : ℕ) (old : ℕ → ℕ) (k : ℕ) (less : level <
         }
 
     -- its node, if it is not constant
-    module _ (mixed : piece inputs bits level k ≡ 0 → ⊥) (mixed' : piece inputs bits level k ≡ all_ones inputs level → ⊥) where
+    module _ (mixed : Alike inputs bits level k → ⊥) where
       low : Refers inputs bits (level + 1) d.nodes k (old k)
       low = mid.after k (omega arith)
 
@@ -115,7 +112,7 @@ module _ (inputs bits level : ℕ) (old : ℕ → ℕ) (k : ℕ) (less : level <
           (branch_fits inputs d.nodes level (old (k + 1)) high.valid high.deep))
 
       unlike : old k ≢ old (k + 1)
-      unlike same = ⊎_elim mixed mixed' (piece_alike inputs bits level k (neighbours_alike inputs bits level k d.nodes (old k) (old (k + 1)) less low high same))
+      unlike same = mixed (neighbours_alike inputs bits level k d.nodes (old k) (old (k + 1)) less low high same)
 
       placed_midway : Stands (over level old k) d.nodes None → Midway inputs bits level old (suc k) (settled k (over level old k) None d)
       placed_midway nowhere =
@@ -127,7 +124,7 @@ module _ (inputs bits level : ℕ) (old : ℕ → ℕ) (k : ℕ) (less : level <
             own =
                 own_put (d.nodes ++ x ∷ []) d.refers (3 + length d.nodes)
                 (λ i h. own_push inputs d.nodes x bits level old i (d.refers i) (mid.own i h))
-                (as_node (length d.nodes) (omega arith) refl (at_last d.nodes x) mixed mixed');
+                (as_node (length d.nodes) (omega arith) refl (at_last d.nodes x (length d.nodes) refl) mixed);
             kept = kept_put d.refers (3 + length d.nodes) mid.kept;
             led =
                 place_cases (λ place. Led level (suc k) old (settled k x None d) place) d.nodes x
@@ -140,22 +137,21 @@ module _ (inputs bits level : ℕ) (old : ℕ → ℕ) (k : ℕ) (less : level <
           }
 
       settled_midway : (o : Option ℕ) → Stands (over level old k) d.nodes o → Midway inputs bits level old (suc k) (settled k (over level old k) o d)
-      settled_midway (Some place) stood = put_midway (3 + place) (as_node place stood.0 refl stood.1 mixed mixed')
+      settled_midway (Some place) stood = put_midway (3 + place) (as_node place stood.0 refl stood.1 mixed)
       settled_midway None nowhere = placed_midway nowhere
 
     node_is : node_of level k d ≡ over level old k
-    node_is =
-        ap (λ r. record { level = level; low = r; high = d.refers (k + 1) }) (mid.kept k (omega arith))
-        ∙ ap (λ r. record { level = level; low = old k; high = r }) (mid.kept (k + 1) (omega arith))
+    node_is = let l = mid.kept k (omega arith) in let h = mid.kept (k + 1) (omega arith) in cc
 
     -- the piece is drawn
     pub step : Midway inputs bits level old (suc k) (with_piece inputs bits level k d)
     step =
-        ⊎_elim
-        (λ e. subst (Midway inputs bits level old (suc k)) (sym (cond-true _ _ _ (eq-eqb _ _ e))) (put_midway 0 (as_zero e refl)))
-        (λ mixed. subst (Midway inputs bits level old (suc k)) (sym (cond-false _ _ _ (ne_eqb _ _ mixed)))
-        (⊎_elim
-        (λ e. subst (Midway inputs bits level old (suc k)) (sym (cond-true _ _ _ (eq-eqb _ _ e))) (put_midway 1 (as_one e refl)))
-        (λ mixed'. subst (Midway inputs bits level old (suc k)) (sym (cond-false _ _ _ (ne_eqb _ _ mixed') ∙ ap (λ x. settled k x (place_of x d.nodes) d) node_is)) (settled_midway mixed mixed' (place_of (over level old k) d.nodes) (stands (over level old k) d.nodes)))
-        (cases_eq (piece inputs bits level k) (all_ones inputs level))))
-        (cases_eq (piece inputs bits level k) 0)
+        cond_both (eqb (piece inputs bits level k) 0) _ _ (Midway inputs bits level old (suc k))
+        (λ zeros. put_midway 0 (as_mark 0 (omega arith) (piece_zeros inputs bits level k (eqb-true _ _ zeros)) refl))
+        (λ some.
+        cond_both (eqb (piece inputs bits level k) (all_ones inputs level)) _ _ (Midway inputs bits level old (suc k))
+        (λ ones. put_midway 1 (as_mark 1 (omega arith) (piece_ones inputs bits level k (eqb-true _ _ ones)) refl))
+        (λ other.
+        let mixed : Alike inputs bits level k → ⊥ = λ alike. ⊎_elim (eqb-false _ _ some) (eqb-false _ _ other) (piece_alike inputs bits level k alike) in
+        subst (λ x. Midway inputs bits level old (suc k) (settled k x (place_of x d.nodes) d)) (sym node_is)
+        (settled_midway mixed (place_of (over level old k) d.nodes) (stands (over level old k) d.nodes))))

@@ -1,4 +1,4 @@
-use Rattle.std.proofs.Common.{◌≡◌, ℕ, ◌+◌, ◌/◌, ◌%◌, ◌^◌, ◌<◌, ap, ◌∙◌, rules, arith, pow_mono}
+use Rattle.std.proofs.Common.{ℕ, ◌+◌, ◌/◌, ◌%◌, ◌^◌, ap, ◌∙◌, rules, arith, pow_mono}
 use Rattle.drawing.specs.Pieces.{blank}
 use Rattle.drawing.proofs.Pages.{made, blank_page}
 use Rattle.drawing.proofs.page.Page.blank.Goals as goal
@@ -10,5 +10,5 @@ returns c =
     let fits = c.args.vector.now.fits in
     let answers : ℕ → ℕ = λ k. c.bits-bits.result / 2 ^ k % 2 in
     blank_page _ c.bits-bits.result (omega arith) c.new.ensures c.from_fn.ensures.items.long
-    (made _ _ answers (λ i y q k. search rules) c.from_fn.result 17 0 c.from_fn.ensures.items.each)
+    (made answers (λ i y q k. search rules) 17 c.from_fn.ensures.items)
     ∙ ap blank c.bits-bits.ensures
