@@ -1,6 +1,5 @@
 -- Lemmas on the definitions of specs/.
 pub mod Pages
-pub mod Rooms
 pub mod Digits
 pub mod Searches
 pub mod Pushes

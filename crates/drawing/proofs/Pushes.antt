@@ -34,9 +34,7 @@ module _ (nodes : List Node) (x : Node) where
       (cases_lt (reference - 3) place)
 
   pub node_fits_same : (inputs place : ℕ) (y : Node) → place ≤ length nodes → fit_node inputs (nodes ++ x ∷ []) place y ≡ fit_node inputs nodes place y
-  node_fits_same inputs place y h =
-      ap (λ b. ltb y.level inputs && (b && fit_branch (nodes ++ x ∷ []) place y.level y.high)) (branch_same place y.level y.low h)
-      ∙ ap (λ b. ltb y.level inputs && (fit_branch nodes place y.level y.low && b)) (branch_same place y.level y.high h)
+  node_fits_same inputs place y h = let l = branch_same place y.level y.low h in let r = branch_same place y.level y.high h in cc
 
   pub fit_push : (inputs : ℕ) → Fit inputs nodes → fit_node inputs nodes (length nodes) x ≡ true → Fit inputs (nodes ++ x ∷ [])
   fit_push inputs fit new =

@@ -1,10 +1,9 @@
--- How many nodes a drawing has: a piece adds at most one.
+-- How many nodes a drawing has: a piece adds at most one, and level j has j + 1 pieces, so there are at most 136 at 16 inputs.
 use Rattle.std.proofs.Common.{◌≡◌, ℕ, zero, suc, ◌+◌, ◌-◌, ◌≤◌, eqb, length, Some, None, Option, arith}
 use Rattle.std.proofs.lemmas.List.{length_push}
 use Rattle.std.proofs.lemmas.Bool.{cond_both}
 use Rattle.diagram.specs.declared.node.Node.{Node}
 use Rattle.drawing.specs.Pieces.{Draft, piece, all_ones, settled, node_of, place_of, with_piece, with_pieces, with_levels, drawn}
-use Rattle.drawing.proofs.Rooms.{tri, tri_more, tri_ge, tri_fits}
 
 -- at most one node more
 abbrev AddsOne : Draft → Draft → Type 0
@@ -24,22 +23,37 @@ unfolding with_pieces
 pieces_add inputs bits level zero d = omega arith
 pieces_add inputs bits level (suc k) d = let i = pieces_add inputs bits level k d in let p = piece_adds inputs bits level k (with_pieces inputs bits level k d) in omega arith
 
-pub levels_add : (inputs bits done : ℕ) → done ≤ inputs → length (with_levels inputs bits done).nodes + tri (inputs - done) ≤ tri inputs
-unfolding with_levels
+-- the pieces of the first so many levels
+unfoldable tri : ℕ → ℕ
+tri zero = 0
+tri (suc m) = tri m + suc m
+
+tri_ge : (n : ℕ) → n ≤ tri n
+unfolding tri
+tri_ge zero = omega arith
+tri_ge (suc m) = omega arith
+
+-- there are 136 of 16 levels, and of d levels fewer no more
+tri_fits : (d n : ℕ) → n + d ≡ 16 → tri n ≤ 136
+unfolding tri
+tri_fits zero n e = let all : n ≡ 16 = omega arith in rw all (omega arith)
+tri_fits (suc d) n e = let more = tri_fits d (suc n) (omega arith) in omega arith
+
+levels_add : (inputs bits done : ℕ) → done ≤ inputs → length (with_levels inputs bits done).nodes + tri (inputs - done) ≤ tri inputs
+unfolding with_levels tri
 levels_add inputs bits zero h = let e : inputs - zero ≡ inputs = omega arith in rw e (omega arith)
 levels_add inputs bits (suc done) h =
     let left = inputs - suc done in
     let e : inputs - done ≡ suc left = omega arith in
     let i = rw e at (levels_add inputs bits done (omega arith)) in
-    let p = pieces_add inputs bits left (left + 1) (with_levels inputs bits done) in
-    let m = tri_more left in omega arith
+    let p = pieces_add inputs bits left (left + 1) (with_levels inputs bits done) in omega arith
 
 -- of 16 inputs and fewer, before a level is drawn there is room for all its pieces
 pub room_left : (inputs bits level : ℕ) → inputs ≤ 16 → level ≤ inputs → length (with_levels inputs bits (inputs - level)).nodes + level ≤ 136
 room_left inputs bits level few h =
     let e : inputs - (inputs - level) ≡ level = omega arith in
     let a = rw e at (levels_add inputs bits (inputs - level) (omega arith)) in
-    omega (arith, tri_fits inputs few, tri_ge level)
+    omega (arith, tri_fits (16 - inputs) inputs (omega arith), tri_ge level)
 
 -- of 16 inputs and fewer, at most 136
 pub few_nodes : (inputs bits : ℕ) → inputs ≤ 16 → length (drawn inputs bits).nodes ≤ 136

@@ -1,13 +1,12 @@
 -- One piece more keeps what holds midway through a level.
-use Rattle.std.proofs.Common.{◌≡◌, ℕ, suc, ◌+◌, ◌-◌, ◌<◌, ◌≤◌, true, eqb, ◌≢◌, List, [], ◌∷◌, ◌++◌, length, get_or, Some, None, Option, sym, refl, ◌∙◌, subst, inl, inr, ⊎_elim, arith}
+use Rattle.std.proofs.Common.{◌≡◌, ℕ, suc, ◌+◌, ◌<◌, ◌≤◌, true, eqb, ◌≢◌, List, [], ◌∷◌, ◌++◌, length, get_or, Some, None, Option, sym, refl, ◌∙◌, subst, inl, inr, ⊎_elim, arith}
 use Rattle.std.proofs.lemmas.List.{length_push}
-use Rattle.std.proofs.lemmas.Bool.{cases_lt, cases_eq, lt-ltb, eqb-true, eqb-false, cond_both, and_from, or_left, or_right}
+use Rattle.std.proofs.lemmas.Bool.{cases_lt, cases_eq, lt-ltb, eqb-true, eqb-false, cond_both, and_from}
 use Rattle.std.proofs.lemmas.Bool.Decides.{nat_tests}
 use Rattle.diagram.specs.declared.node.Node.{Node}
-use Rattle.diagram.specs.Walk.{is_mark, no_node, node_at}
+use Rattle.diagram.specs.Walk.{no_node}
 use Rattle.diagram.specs.Rules.{fit_branch, fit_node}
 use Rattle.diagram.specs.Counting.{level_of}
-use Rattle.diagram.proofs.Reading.{level_node}
 use Rattle.drawing.specs.Pieces.{piece, all_ones, Draft, put, referred, settled, place_of, node_of, with_piece}
 use Rattle.drawing.proofs.Levels.{Alike, Table, Refers, Own, as_mark, as_node, over, Led, Midway}
 use Rattle.drawing.proofs.Searches.{Stands, stands}
@@ -62,13 +61,7 @@ module _ (inputs : ℕ) (nodes : List Node) (x : Node) where
 
 -- a branch to a reference of a later level fits
 branch_fits : (inputs : ℕ) (nodes : List Node) (level r : ℕ) → r < 3 + length nodes → level + 1 ≤ level_of inputs nodes r → fit_branch nodes (length nodes) level r ≡ true
-branch_fits inputs nodes level r valid deep =
-    ⊎_elim
-    (λ mark. or_left (is_mark r) _ (lt-ltb r 3 mark))
-    (λ node.
-    let here = level_node inputs nodes r node in
-    or_right (is_mark r) _ (and_from _ _ (lt-ltb (r - 3) (length nodes) (omega arith)) (lt-ltb level (node_at nodes r).level (omega arith))))
-    (cases_lt r 3)
+branch_fits inputs nodes level r valid deep = grind (arith, nat_tests)
 
 -- the piece k, of a level below the inputs
 module _ (inputs bits level : ℕ) (old : ℕ → ℕ) (k : ℕ) (less : level < inputs) (here : k ≤ level) where
