@@ -1,4 +1,4 @@
--- What a program prints of a drawing.
+-- The answer of a drawing as text, for whatever prints one.
 use Rattle.std.specs.Prelude.{ℕ, List, ◌++◌, codes, decimal}
 use Rattle.drawing.specs.declared.drawn.Drawn.{Drawn}
 

@@ -11,6 +11,7 @@ pub struct Drawn {
     pub root: u32,
 }
 
+// The number of nodes and the root, in words.
 impl fmt::Display for Drawn {
     ghost output = { λ d. Some (text d) };
 
