@@ -2,3 +2,4 @@
 pub mod Rules
 pub mod Promise
 pub mod Runs
+pub mod Text

@@ -9,6 +9,8 @@ pub enum Command {
 }
 
 // What a command is answered. A granted one is told the spent figure that it leaves.
+// No Result: an answer is a log's line and is handed out again whatever it was, nobody passes a refused one up by
+// `?`, and an enum inside a Result would make each match one level deeper.
 #[derive(Clone, Copy, PartialEq, Eq, Debug)]
 pub enum Answer {
     Taken { spent: u32 },

@@ -8,10 +8,5 @@ use crate::command::Command;
 pub fn same_command(a: Command, b: Command) -> bool
     ensures { result ≡ same_command a b }
 {
-    match (a, b) {
-        (Command::Take { output: first }, Command::Take { output: second }) => first == second,
-        (Command::Back { output: first }, Command::Back { output: second }) => first == second,
-        (Command::Take { .. }, Command::Back { .. }) => false,
-        (Command::Back { .. }, Command::Take { .. }) => false,
-    }
+    a == b
 }
