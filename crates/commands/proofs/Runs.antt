@@ -1,75 +1,102 @@
--- Logs and transcripts of lists that are joined.
-use Rattle.std.proofs.Common.{◌≡◌, ◌+◌, Bool, true, false, List, [], ◌∷◌, ◌++◌, map, length, take, sym, refl, ap, ◌∙◌}
-use Rattle.std.proofs.lemmas.List.{append-nil, append_assoc, map-append, take_at}
+-- Runs of commands that are joined, and logs that grow.
+use Rattle.std.proofs.Common.{◌≡◌, Bool, true, false, ◌+◌, List, [], ◌∷◌, ◌++◌, map, length, take, sym, refl, ap, ◌∙◌}
+use Rattle.std.specs.List.{fold, scan}
+use Rattle.std.proofs.lemmas.List.{append-nil, append_assoc, map_push, take_at}
+use Rattle.std.proofs.lemmas.List.Folds.{fold_along}
+use Rattle.std.proofs.lemmas.List.Sums.{fold-append, fold_push}
 use Rattle.std.proofs.lemmas.Bool.{and_parts, eqb-true}
-use Rattle.commands.specs.declared.command.Answer.{Answer}
 use Rattle.commands.specs.declared.command.Line.{Line}
-use Rattle.commands.specs.Rules.{Account, Sent, with_line, decided, numbered, logged, fresh, lines_from, lines_after, heard_from, says, answers}
+use Rattle.commands.specs.Rules.{Account, Sent, with_line, decided, line_of, numbered, fresh, repeats, next, hears, lines_from, lines_after, heard_from, says, answers}
 use Rattle.commands.proofs.Logs.{next_line, no_line_more, fresh_answer, repeat_answer, line_again, repeats_again}
 
-pub lines_joined : (account : Account) (before later : List Sent) (lines : List Line)
-    → lines_from account lines (before ++ later) ≡ lines_from account (lines_from account lines before) later
-unfolding lines_from
-lines_joined account [] later lines = refl
-lines_joined account (s ∷ before) later lines = lines_joined account before later (logged account lines s.number s.command)
-
-pub heard_joined : (account : Account) (before later : List Sent) (lines : List Line)
-    → heard_from account lines (before ++ later) ≡ heard_from account lines before ++ heard_from account (lines_from account lines before) later
-unfolding lines_from heard_from
-heard_joined account [] later lines = refl
-heard_joined account (s ∷ before) later lines =
-    ap (λ l. record { before = lines; sent = s; answer = numbered account lines s.number s.command } ∷ l)
-    (heard_joined account before later (logged account lines s.number s.command))
+-- what is heard of a run with one step more
+pub scan_push : {S X Y : Type 0} (step : S → X → S) (out : S → X → Y) (a : S) (xs : List X) (x : X)
+    → scan step out a (xs ++ x ∷ []) ≡ scan step out a xs ++ out (fold step a xs) x ∷ []
+scan_push step out a [] x = refl
+scan_push step out a (y ∷ xs) x = ap (λ l. out a y ∷ l) (scan_push step out (step a y) xs x)
 
 -- the log after one command more
-pub lines_one : (account : Account) (before : List Sent) (s : Sent)
-    → lines_after account (before ++ s ∷ []) ≡ logged account (lines_after account before) s.number s.command
+pub lines_one : (account : Account) (before : List Sent) (s : Sent) → lines_after account (before ++ s ∷ []) ≡ next account (lines_after account before) s
 unfolding lines_from
-lines_one account before s = lines_joined account before (s ∷ []) []
+lines_one account before s = fold_push (next account) [] before s
 
 -- the answers to one command more
 pub answers_one : (account : Account) (before : List Sent) (s : Sent) → answers account (before ++ s ∷ []) ≡ answers account before ++ says account before s ∷ []
-unfolding heard_from
-answers_one account before s =
-    ap (map (λ h. h.answer)) (heard_joined account before (s ∷ []) [])
-    ∙ map-append (λ h. h.answer) (heard_from account [] before) _
+unfolding lines_from heard_from
+answers_one account before s = ap (map (λ h. h.answer)) (scan_push (next account) (hears account) [] before s) ∙ map_push (λ h. h.answer) _ _
 
--- one command adds lines at the end, if any
-pub logged_grows : (account : Account) (lines : List Line) (s : Sent) → (more : List Line) × (logged account lines s.number s.command ≡ lines ++ more)
-logged_grows account lines s = go (fresh lines s.number) refl
+-- lines were added at the end of a log, if any
+pub record Grown (before after : List Line) : Type 0 where
+  pub more : List Line
+  pub is : after ≡ before ++ more
+
+-- no line was added
+pub not_grown : (lines : List Line) → Grown lines lines
+not_grown lines = record { more = []; is = sym (append-nil lines) }
+
+-- growing twice
+grown_twice : {before middle after : List Line} → Grown before middle → Grown middle after → Grown before after
+grown_twice {before = before} f g = record { more = f.more ++ g.more; is = g.is ∙ ap (λ l. l ++ g.more) f.is ∙ append_assoc before f.more g.more }
+
+-- a log grows at a command
+pub next_grows : (account : Account) (lines : List Line) (s : Sent) → Grown lines (next account lines s)
+next_grows account lines s = go (fresh lines s.number) refl
   where
-    go : (b : Bool) → fresh lines s.number ≡ b → (more : List Line) × (logged account lines s.number s.command ≡ lines ++ more)
-    go true h = (_, next_line account lines s.number s.command h)
-    go false h = ([], no_line_more account lines s.number s.command h ∙ sym (append-nil lines))
+    go : (b : Bool) → fresh lines s.number ≡ b → Grown lines (next account lines s)
+    go true h = record { more = _; is = next_line account lines s.number s.command h }
+    go false h = record { more = []; is = no_line_more account lines s.number s.command h ∙ sym (append-nil lines) }
 
--- so does any list of them
-pub lines_grow : (account : Account) (sent : List Sent) (lines : List Line) → (rest : List Line) × (lines_from account lines sent ≡ lines ++ rest)
-unfolding lines_from
-lines_grow account [] lines = ([], sym (append-nil lines))
-lines_grow account (s ∷ later) lines =
-    let one = logged_grows account lines s in
-    let all = lines_grow account later (logged account lines s.number s.command) in
-    (one.0 ++ all.0, all.1 ∙ ap (λ l. l ++ all.0) one.1 ∙ append_assoc lines one.0 all.0)
+-- it grows over a run if it does at each step
+pub run_grows : {X : Type 0} (step : List Line → X → List Line) → ((lines : List Line) (x : X) → Grown lines (step lines x))
+    → (lines : List Line) (before later : List X) → Grown (fold step lines before) (fold step lines (before ++ later))
+run_grows step one lines before later =
+    let start : List Line = fold step lines before in
+    rw (fold-append step lines before later)
+    (fold_along step step (λ l _. Grown start l) (λ l _ x g. grown_twice g (one l x)) start start later (not_grown start))
+
+-- and so it does past one step of the run
+pub run_past : {X : Type 0} (step : List Line → X → List Line) → ((lines : List Line) (x : X) → Grown lines (step lines x))
+    → (lines : List Line) (before : List X) (x : X) (between : List X)
+    → Grown (step (fold step lines before) x) (fold step lines (before ++ x ∷ between))
+run_past step one lines before x between =
+    rw (← fold_push step lines before x, ← append_assoc before (x ∷ []) between) (run_grows step one lines (before ++ x ∷ []) between)
 
 pub log_begins : (account : Account) (before later : List Sent)
     → take (length (lines_after account before)) (lines_after account (before ++ later)) ≡ lines_after account before
-log_begins account before later =
-    let g = lines_grow account later (lines_after account before) in
-    ap (take (length (lines_after account before))) (lines_joined account before later [] ∙ g.1)
-    ∙ take_at (lines_after account before) g.0 _ refl
-
--- a fresh command is answered as before when it is sent again
-pub answered_again : (account : Account) (lines : List Line) (s : Sent) (between : List Sent) → fresh lines s.number ≡ true
-    → numbered account (lines_from account lines (s ∷ between)) s.number s.command ≡ numbered account lines s.number s.command
 unfolding lines_from
-answered_again account lines s between h =
-    let p = and_parts _ _ h in
-    let n = eqb-true s.number (length lines + 1) p.0 in
-    let a : Answer = decided account lines s.command in
-    let g = lines_grow account between (logged account lines s.number s.command) in
-    let e : lines_from account (logged account lines s.number s.command) between ≡ with_line lines s.command a ++ g.0
-    = g.1 ∙ ap (λ l. l ++ g.0) (next_line account lines s.number s.command h) in
-    ap (λ l. numbered account l s.number s.command) e
-    ∙ repeat_answer account (with_line lines s.command a ++ g.0) s (repeats_again lines s.command a g.0 s.number n)
-    ∙ ap (λ l. l.answer) (line_again lines (record { command = s.command; answer = a }) g.0 s.number n)
+log_begins account before later =
+    let g = run_grows (next account) (next_grows account) [] before later in
+    ap (take (length (lines_after account before))) g.is ∙ take_at (lines_after account before) g.more _ refl
+
+-- the log after a command and whatever follows it
+pub grown_past : (account : Account) (before : List Sent) (s : Sent) (between : List Sent)
+    → Grown (next account (lines_after account before) s) (lines_after account (before ++ s ∷ between))
+unfolding lines_from
+grown_past account before s between = run_past (next account) (next_grows account) [] before s between
+
+-- a log that grew from the one after a fresh command has its line, whatever follows
+fresh_line : (account : Account) (lines after : List Line) (s : Sent) → fresh lines s.number ≡ true → Grown (next account lines s) after
+    → (rest : List Line) × (after ≡ with_line lines s.command (decided account lines s.command) ++ rest) × (s.number ≡ length lines + 1)
+fresh_line account lines after s h g = (
+  g.more,
+  g.is ∙ ap (λ l. l ++ g.more) (next_line account lines s.number s.command h),
+  eqb-true s.number (length lines + 1) (and_parts _ _ h).0,
+)
+
+-- so it is a repeat from then on
+pub repeats_after : (account : Account) (lines after : List Line) (s : Sent) → fresh lines s.number ≡ true → Grown (next account lines s) after
+    → repeats after s ≡ true
+repeats_after account lines after s h g =
+    let f = fresh_line account lines after s h g in
+    ap (λ l. repeats l s) f.1 ∙ repeats_again lines s.command (decided account lines s.command) f.0 s.number f.2
+
+-- and is answered as before when it is sent again
+pub answered_again : (account : Account) (lines after : List Line) (s : Sent) → fresh lines s.number ≡ true → Grown (next account lines s) after
+    → numbered account after s.number s.command ≡ numbered account lines s.number s.command
+answered_again account lines after s h g =
+    let f = fresh_line account lines after s h g in
+    let line : Line = record { command = s.command; answer = decided account lines s.command } in
+    repeat_answer account after s (repeats_after account lines after s h g)
+    ∙ ap (λ l. (line_of l s.number).answer) f.1
+    ∙ ap (λ l. l.answer) (line_again lines line f.0 s.number f.2)
     ∙ sym (fresh_answer account lines s.number s.command h)

@@ -1,41 +1,34 @@
--- Repeats left out of a transcript.
-use Rattle.std.proofs.Common.{◌≡◌, ℕ, List, [], ◌∷◌, sym, refl, ap, ◌∙◌, ap₂, arith}
-use Rattle.commands.specs.declared.command.Line.{Line}
-use Rattle.commands.specs.Rules.{Account, Sent, Heard, numbered, logged, repeats, lines_from, heard_from, commands_of}
-use Rattle.commands.specs.Promise.{Struck, Struck.ends, Struck.keeps, Struck.strikes}
-use Rattle.commands.proofs.Logs.{repeat_log}
+-- Elements that change nothing, struck out of a run.
+use Rattle.std.proofs.Common.{◌≡◌, Bool, true, List, [], ◌∷◌, map, sym, refl, ap, ◌∙◌, ap₂}
+use Rattle.std.specs.List.{fold, scan}
+use Rattle.commands.specs.Strikes.{Left, Left.ends, Left.keeps, Left.strikes}
 
--- what a command is heard as
-abbrev entry : Account → List Line → Sent → Heard
-entry account lines s = record { before = lines; sent = s; answer = numbered account lines s.number s.command }
+-- what is heard of a step tells which it was, and a step that passes the test changes nothing
+pub record Idle {S X H : Type 0} (next : S → X → S) (hears : S → X → H) (made : H → X) (passes : H → Bool) : Type 0 where
+  pub tells : (s : S) (x : X) → made (hears s x) ≡ x
+  pub stays : (s : S) (x : X) → passes (hears s x) ≡ true → next s x ≡ s
 
--- a transcript is not empty, or it is that of no commands
-not_none : {X : Type 0} (x : X) (xs : List X) → [] ≡ x ∷ xs → ⊥
-not_none x xs e = let z : ◌≡◌ {A = ℕ} 0 1 = cc in omega arith
+-- what is left is heard as before, and leads where the whole led
+abbrev pub SameRun : {S X H : Type 0} → (S → X → S) → (S → X → H) → (H → X) → S → List X → List H → Type 0
+SameRun next hears made s xs left = (scan next hears s (map made left) ≡ left) × (fold next s (map made left) ≡ fold next s xs)
 
--- what is left is heard as before, and leaves the log as before
-abbrev Left : Account → List Line → List Sent → List Heard → Type 0
-Left account lines sent left =
-    (heard_from account lines (commands_of left) ≡ left) × (lines_from account lines (commands_of left) ≡ lines_from account lines sent)
-
-pub left_over : (account : Account) {all left : List Heard} → Struck all left → (lines : List Line) (sent : List Sent)
-    → all ≡ heard_from account lines sent → Left account lines sent left
-unfolding lines_from heard_from
-left_over account ends lines [] e = (refl, refl)
-left_over account ends lines (s ∷ later) e = absurd (not_none _ _ e)
-left_over account (keeps h all left t) lines [] e = absurd (not_none _ _ (sym e))
-left_over account (keeps h all left t) lines (s ∷ later) e =
-    let first : h ≡ entry account lines s = cc in
-    let others : all ≡ heard_from account (logged account lines s.number s.command) later = cc in
-    let ih = left_over account t (logged account lines s.number s.command) later others in
-    let same : h.sent ≡ s = ap (λ x. x.sent) first in (
-      ap (λ x. heard_from account lines (x ∷ commands_of left)) same ∙ ap₂ ◌∷◌ (sym first) ih.0,
-      ap (λ x. lines_from account lines (x ∷ commands_of left)) same ∙ ih.1,
+pub left_over : {S X H : Type 0} {next : S → X → S} {hears : S → X → H} {made : H → X} {passes : H → Bool} → Idle next hears made passes
+    → {all left : List H} → Left passes all left → (s : S) (xs : List X) → all ≡ scan next hears s xs → SameRun next hears made s xs left
+left_over idle ends s [] e = (refl, refl)
+left_over idle ends s (x ∷ xs) e = cc
+left_over idle (keeps h all left t) s [] e = cc
+left_over {next = next} {hears = hears} {made = made} idle (keeps h all left t) s (x ∷ xs) e =
+    let first : h ≡ hears s x = cc in
+    let others : all ≡ scan next hears (next s x) xs = cc in
+    let ih = left_over idle t (next s x) xs others in
+    let same : made h ≡ x = ap made first ∙ idle.tells s x in (
+      ap (λ y. scan next hears s (y ∷ map made left)) same ∙ ap₂ ◌∷◌ (sym first) ih.0,
+      ap (λ y. fold next s (y ∷ map made left)) same ∙ ih.1,
     )
-left_over account (strikes h all left r t) lines [] e = absurd (not_none _ _ (sym e))
-left_over account (strikes h all left r t) lines (s ∷ later) e =
-    let first : h ≡ entry account lines s = cc in
-    let others : all ≡ heard_from account (logged account lines s.number s.command) later = cc in
-    let idle = repeat_log account lines s (ap (λ x. repeats x.before x.sent) (sym first) ∙ r) in
-    let ih = left_over account t lines later (others ∙ ap (λ l. heard_from account l later) idle) in
-    (ih.0, ih.1 ∙ ap (λ l. lines_from account l later) (sym idle))
+left_over idle (strikes h all left r t) s [] e = cc
+left_over {next = next} {hears = hears} {passes = passes} idle (strikes h all left r t) s (x ∷ xs) e =
+    let first : h ≡ hears s x = cc in
+    let others : all ≡ scan next hears (next s x) xs = cc in
+    let stays = idle.stays s x (ap passes (sym first) ∙ r) in
+    let ih = left_over idle t s xs (others ∙ ap (λ z. scan next hears z xs) stays) in
+    (ih.0, ih.1 ∙ ap (λ z. fold next z xs) (sym stays))

@@ -1,15 +1,8 @@
 -- Sums that differ at one place.
-use Rattle.std.proofs.Common.{◌≡◌, ℕ, zero, suc, ◌+◌, ◌<◌, ◌≤◌, ◌≢◌, refl, ⊎_elim, arith}
+use Rattle.std.proofs.Common.{◌≡◌, ℕ, zero, suc, ◌+◌, ◌<◌, ◌≤◌, ◌≢◌, ⊎_elim, arith}
 use Rattle.std.proofs.lemmas.Bool.{cases_eq}
 use Rattle.rows.specs.Rows.{sum_below}
-
-pub total_same : (m : ℕ) (f g : ℕ → ℕ) → ((k : ℕ) → k < m → f k ≡ g k) → sum_below m f ≡ sum_below m g
-unfolding sum_below
-total_same zero f g same = refl
-total_same (suc m) f g same =
-    let ih = total_same m f g (λ k h. same k (omega arith)) in
-    let e = same m (omega arith) in
-    omega arith
+use Rattle.rows.proofs.Sums.{sum_cong}
 
 -- one term is at most the sum
 pub term_le : (m : ℕ) (f : ℕ → ℕ) (k : ℕ) → k < m → f k ≤ sum_below m f
@@ -23,12 +16,6 @@ unfolding sum_below
 total_but zero f g k h same = absurd (omega arith)
 total_but (suc m) f g k h same =
     ⊎_elim
-    (λ e. rw e (let s = total_same m f g (λ j l. same j (omega arith)) in omega arith))
+    (λ e. rw e (let s = sum_cong m f g (λ j l. same j (omega arith)) in omega arith))
     (λ ne. let ih = total_but m f g k (omega arith) same in let s = same m (omega arith) in omega arith)
     (cases_eq k m)
-
--- a sum whose terms are all 0
-pub total_none : (m : ℕ) → sum_below m (λ _. 0) ≡ 0
-unfolding sum_below
-total_none zero = refl
-total_none (suc m) = let ih = total_none m in omega arith

@@ -8,6 +8,7 @@ use Rattle.commands.specs.declared.command.Command.TheVariants.{Take, Back}
 use Rattle.commands.specs.declared.command.Answer.{Answer}
 use Rattle.commands.specs.declared.command.Answer.TheVariants.{Taken, PutBack, Refused}
 use Rattle.commands.specs.declared.command.Line.{Line}
+use Rattle.commands.specs.Strikes.{Left}
 use Rattle.commands.specs.Rules.{Account, Sent, Heard, taken, spent, log_room, line_of, with_line, numbered, fresh, repeats, says, lines_after, heard, commands_of, answers}
 
 -- what the outputs of a set cost together
@@ -71,10 +72,8 @@ pub record Fits (account : Account) (lines : List Line) (o : ℕ) : Type 0 where
   pub grants : spent lines + account.cost o ≤ account.limit → next_answer account lines (Take o) ≡ Taken (spent lines + account.cost o)
 
 -- some of a transcript's commands that are repeats where they stand are left out
-pub data Struck : List Heard → List Heard → Type 0 where
-  ends : Struck [] []
-  keeps : (h : Heard) (all left : List Heard) → Struck all left → Struck (h ∷ all) (h ∷ left)
-  strikes : (h : Heard) (all left : List Heard) → repeats h.before h.sent ≡ true → Struck all left → Struck (h ∷ all) left
+abbrev pub Struck : List Heard → List Heard → Type 0
+Struck = Left (λ h. repeats h.before h.sent)
 
 -- what commands on an account are promised
 pub record Promised (account : Account) : Type 0 where

@@ -1,6 +1,7 @@
 -- How numbered commands are answered and logged, for whatever keeps a log and for its callers.
 -- All is told from the account and the lines logged so far; nothing is read from a record of what is taken or spent.
 use Rattle.std.specs.Prelude.{ℕ, ◌+◌, ◌-◌, Bool, true, false, cond, ◌&&◌, ◌||◌, List, [], ◌∷◌, ◌++◌, map, length, fold, ◌==◌, nat_le, nat_lt, slice_index_or}
+use Rattle.std.specs.List.{scan}
 use Rattle.refusal.specs.declared.table.Refusal.TheVariants.{NoOutput, Gap, NumberUsed, LogFull, AlreadyTaken, NotTaken, OverLimit}
 use Rattle.commands.specs.declared.command.Command.{Command}
 use Rattle.commands.specs.declared.command.Command.TheVariants.{Take, Back}
@@ -115,10 +116,13 @@ pub record Sent : Type 0 where
 abbrev pub repeats : List Line → Sent → Bool
 repeats lines sent = used lines sent.number && same_command (line_of lines sent.number).command sent.command
 
+-- the log after one command more
+abbrev pub next : Account → List Line → Sent → List Line
+next account lines s = logged account lines s.number s.command
+
 -- the log after some commands, from a log
 unfoldable pub lines_from : Account → List Line → List Sent → List Line
-lines_from account lines [] = lines
-lines_from account lines (s ∷ later) = lines_from account (logged account lines s.number s.command) later
+lines_from account lines sent = fold (next account) lines sent
 
 -- the log after some commands, from none
 abbrev pub lines_after : Account → List Sent → List Line
@@ -130,16 +134,17 @@ pub record Heard : Type 0 where
   pub sent : Sent
   pub answer : Answer
 
+-- how a command is heard, from the lines so far
+abbrev pub hears : Account → List Line → Sent → Heard
+hears account lines s = record { before = lines; sent = s; answer = numbered account lines s.number s.command }
+
 -- what a command is answered after those before it
 abbrev pub says : Account → List Sent → Sent → Answer
 says account before s = numbered account (lines_after account before) s.number s.command
 
 -- the transcript of some commands, from a log
 unfoldable pub heard_from : Account → List Line → List Sent → List Heard
-heard_from account lines [] = []
-heard_from account lines (s ∷ later) =
-    record { before = lines; sent = s; answer = numbered account lines s.number s.command }
-    ∷ heard_from account (logged account lines s.number s.command) later
+heard_from account lines sent = scan (next account) (hears account) lines sent
 
 -- the transcript of some commands, from none
 abbrev pub heard : Account → List Sent → List Heard

@@ -1,6 +1,5 @@
 -- Lemmas on the definitions of specs/.
 pub mod Runs
-pub mod Strikes
 pub mod Repeats
 pub mod Handed
 pub mod Fits

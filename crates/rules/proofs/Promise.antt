@@ -11,19 +11,19 @@ use Rattle.commands.specs.declared.command.Command.TheVariants.{Take, Back}
 use Rattle.commands.specs.declared.command.Answer.TheVariants.{Refused}
 use Rattle.commands.specs.declared.command.Line.{Line}
 use Rattle.commands.specs.Rules.{taken, spent, used}
+use Rattle.commands.proofs.Strikes.{Idle, left_over}
 use Rattle.commands.proofs.Limits.{put_back}
 use Rattle.rules.specs.declared.call.Call.{Call}
 use Rattle.rules.specs.declared.call.Call.TheVariants as call
 use Rattle.rules.specs.Rules.{Terms, account, taken_set, drawing, Said.answered, Said.asked, reply, logs, lines_from, lines, replies_from, replies, says}
 use Rattle.rules.specs.Standing.{Nearest, Replaced, Untouched, Absent, Stands, sent}
-use Rattle.rules.specs.Promise.{Promised, is_repeat}
+use Rattle.rules.specs.Promise.{Promised, hears, heard_from, is_repeat}
 use Rattle.rules.proofs.Runs.{replies_one, sent_reply, repeat_adds_none, others_add_none, lines_without, calls_keep}
 use Rattle.rules.proofs.Handed.{digits, reads_symmetric, reads_design, misread_taken, misread_free, spent_true}
 use Rattle.rules.proofs.Fits.{limited_take}
 use Rattle.rules.proofs.Refusals.{full_log, gap_told, used_told, absent_take, absent_back, second_take, idle_back}
 use Rattle.rules.proofs.Altered.{fresh_command}
 use Rattle.rules.proofs.Repeats.{was_earlier, is_repeated}
-use Rattle.rules.proofs.Strikes.{left_over}
 
 shown_nearest : (t : Terms) (before : List Call) (o : ℕ) → o < t.meaning.outputs → Nearest t before o
 shown_nearest t before o inside =
@@ -113,7 +113,12 @@ number_used : (t : Terms) (log : List Line) (k : ℕ) (c : Command) → used log
 number_used t log k (Take o) u h = ap answered (used_told (account t) log k (Take o) u h)
 number_used t log k (Back o) u h = ap answered (used_told (account t) log k (Back o) u h)
 
+-- a repeat changes nothing
+repeats_idle : (t : Terms) → Idle (logs t) (hears t) (λ h. h.made) (λ h. is_repeat h.before h.made)
+repeats_idle t = record { tells = λ log c. refl; stays = repeat_adds_none t }
+
 pub promised : (t : Terms) → Promised t
+unfolding lines_from heard_from
 promised t = record {
   opened = opened t;
   stands = stands t;
@@ -124,6 +129,6 @@ promised t = record {
   number_used = λ before k c u h. number_used t (lines t before) k c u h;
   idle = λ before later c h. without t before later c (repeat_adds_none t (lines t before) c h);
   quiet = λ before later c h. without t before later c (others_add_none t (lines t before) c h);
-  struck = λ calls left s. (left_over t s _ calls refl).0;
-  ended = λ calls left s c. ap (λ l. reply t l c) (left_over t s _ calls refl).1;
+  struck = λ calls left s. (left_over (repeats_idle t) s [] calls refl).0;
+  ended = λ calls left s c. ap (λ l. reply t l c) (left_over (repeats_idle t) s [] calls refl).1;
 }

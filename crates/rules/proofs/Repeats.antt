@@ -7,14 +7,14 @@ use Rattle.commands.specs.declared.command.Command.TheVariants.{Take, Back}
 use Rattle.commands.specs.declared.command.Answer.{Answer}
 use Rattle.commands.specs.declared.command.Line.{Line}
 use Rattle.commands.specs.Rules.{Sent, same_command, no_line, with_line, used, fresh, repeats, decided, logged}
-use Rattle.commands.proofs.Logs.{next_line, no_line_more, repeats_again}
-use Rattle.commands.proofs.Runs.{lines_grow}
+use Rattle.commands.proofs.Logs.{next_line, no_line_more}
+use Rattle.commands.proofs.Runs.{repeats_after}
 use Rattle.rules.specs.declared.call.Call.{Call}
 use Rattle.rules.specs.declared.call.Call.TheVariants as call
 use Rattle.rules.specs.Rules.{Terms, account, logs, lines_from, lines, says}
 use Rattle.rules.specs.Standing.{sent}
 use Rattle.rules.specs.Promise.{is_repeat, Earlier}
-use Rattle.rules.proofs.Runs.{commands_among, lines_past, said_again}
+use Rattle.rules.proofs.Runs.{lines_past, said_again}
 
 abbrev under : ℕ → Command → Sent
 under k c = record { number = k; command = c }
@@ -123,11 +123,7 @@ was_earlier t before (call.Draw o room) h = absurd (false≢true h)
 ever_after : (t : Terms) (before between : List Call) (k : ℕ) (c : Command) → fresh (lines t before) k ≡ true
     → repeats (lines t (before ++ sent k c ∷ between)) (under k c) ≡ true
 ever_after t before between k c h =
-    let log : List Line = lines t before in
-    let n = eqb-true k (length log + 1) (and_parts _ _ h).0 in
-    let g = lines_grow (account t) (commands_among between) (logged (account t) log k c) in
-    let e = lines_past t before between k c ∙ g.1 ∙ ap (λ l. l ++ g.0) (next_line (account t) log k c h) in
-    ap (λ l. repeats l (under k c)) e ∙ repeats_again log c (decided (account t) log c) g.0 k n
+    repeats_after (account t) (lines t before) (lines t (before ++ sent k c ∷ between)) (under k c) h (lines_past t before between k c)
 
 pub is_repeated : (t : Terms) (before : List Call) (c : Call) → Earlier t before c → is_repeat (lines t before) c ≡ true
 is_repeated t before (call.Take k o) e = ap (λ l. is_repeat (lines t l) (call.Take k o)) e.parts ∙ ever_after t e.earlier e.between k (Take o) e.was_fresh

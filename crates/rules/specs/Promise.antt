@@ -1,12 +1,14 @@
 -- What a service promises over whole runs of calls, and with it where it stands after each: for whoever trusts its replies or sends a command twice.
 -- Lists of calls are any lists, with gaps, repeats and refusals among them.
 use Rattle.std.specs.Prelude.{◌≡◌, ℕ, Bool, true, false, ◌↔◌, List, [], ◌∷◌, ◌++◌, map}
+use Rattle.std.specs.List.{scan}
 use Rattle.refusal.specs.declared.table.Refusal.TheVariants.{NumberUsed}
 use Rattle.commands.specs.declared.command.Command.{Command}
 use Rattle.commands.specs.declared.command.Command.TheVariants.{Take, Back}
 use Rattle.commands.specs.declared.command.Answer.TheVariants.{Refused}
 use Rattle.commands.specs.declared.command.Line.{Line}
 use Rattle.commands.specs.Rules.{fresh, used, repeats}
+use Rattle.commands.specs.Strikes.{Left}
 use Rattle.rules.specs.declared.call.Call.{Call}
 use Rattle.rules.specs.declared.call.Call.TheVariants as call
 use Rattle.rules.specs.Rules.{Terms, Said, Said.answered, Said.asked, reply, logs, lines, replies, says}
@@ -51,8 +53,7 @@ hears t log c = record { before = log; made = c; said = reply t log c; next = re
 
 -- the transcript of some calls, from a log
 unfoldable pub heard_from : Terms → List Line → List Call → List Heard
-heard_from t log [] = []
-heard_from t log (c ∷ later) = hears t log c ∷ heard_from t (logs t log c) later
+heard_from t log calls = scan (logs t) (hears t) log calls
 
 -- and from the opening
 abbrev pub heard : Terms → List Call → List Heard
@@ -63,10 +64,8 @@ abbrev pub calls_of : List Heard → List Call
 calls_of transcript = map (λ h. h.made) transcript
 
 -- some of a transcript's calls that are repeats where they stand are left out
-pub data Struck : List Heard → List Heard → Type 0 where
-  ends : Struck [] []
-  keeps : (h : Heard) (all left : List Heard) → Struck all left → Struck (h ∷ all) (h ∷ left)
-  strikes : (h : Heard) (all left : List Heard) → is_repeat h.before h.made ≡ true → Struck all left → Struck (h ∷ all) left
+abbrev pub Struck : List Heard → List Heard → Type 0
+Struck = Left (λ h. is_repeat h.before h.made)
 
 -- what a service opened on these terms promises
 pub record Promised (t : Terms) : Type 0 where

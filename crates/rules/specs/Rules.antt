@@ -1,6 +1,7 @@
 -- The reply to each call of a service, from what it was opened with and the calls so far: for whoever calls one.
 -- Nothing here is read from the service's own record; what is taken and spent follows from the log lines, and these from the calls.
-use Rattle.std.specs.Prelude.{ℕ, ◌*◌, ◌^◌, cond, List, [], ◌∷◌, length, count_ones, nat_lt, slice_index}
+use Rattle.std.specs.Prelude.{ℕ, ◌*◌, ◌^◌, cond, List, [], length, fold, count_ones, nat_lt, slice_index}
+use Rattle.std.specs.List.{scan}
 use Rattle.refusal.specs.declared.table.Refusal.{Refusal}
 use Rattle.refusal.specs.declared.table.Refusal.TheVariants.{NoOutput, NoRow, NotTaken, NodesShort}
 use Rattle.rows.specs.Rows.{sum_below, bit}
@@ -77,8 +78,7 @@ logs t lines (call.Draw o room) = lines
 
 -- the log after some calls, from a log
 unfoldable pub lines_from : Terms → List Line → List Call → List Line
-lines_from t lines [] = lines
-lines_from t lines (c ∷ later) = lines_from t (logs t lines c) later
+lines_from t lines calls = fold (logs t) lines calls
 
 -- and from the opening
 abbrev pub lines : Terms → List Call → List Line
@@ -86,8 +86,7 @@ lines t calls = lines_from t [] calls
 
 -- the replies to some calls, from a log
 unfoldable pub replies_from : Terms → List Line → List Call → List Said
-replies_from t lines [] = []
-replies_from t lines (c ∷ later) = reply t lines c ∷ replies_from t (logs t lines c) later
+replies_from t lines calls = scan (logs t) (reply t) lines calls
 
 -- and from the opening
 abbrev pub replies : Terms → List Call → List Said
