@@ -3,37 +3,28 @@ use Rattle.std.proofs.Common.{◌≡◌, ℕ, ◌+◌, ◌-◌, ◌<◌, ◌≤�
 use mathlib.Core.Path.{fun_ext}
 use Rattle.std.proofs.lemmas.List.{length_push}
 use Rattle.std.proofs.lemmas.Bool.{cases_eq, and_parts, cond-true, cond-false, eq-eqb, ne_eqb, leb-true, ltb-true}
+use Rattle.refusal.specs.declared.table.Refusal.{Refusal}
 use Rattle.refusal.specs.declared.table.Refusal.TheVariants.{NoOutput, AlreadyTaken, NotTaken, OverLimit}
 use Rattle.commands.specs.declared.command.Command.{Command}
 use Rattle.commands.specs.declared.command.Command.TheVariants.{Take, Back}
 use Rattle.commands.specs.declared.command.Answer.{Answer}
 use Rattle.commands.specs.declared.command.Answer.TheVariants.{Taken, PutBack, Refused}
 use Rattle.commands.specs.declared.command.Line.{Line}
-use Rattle.commands.specs.Rules.{Account, taken, spent, figure, log_room, with_line, decided, logged, fresh}
+use Rattle.commands.specs.Rules.{Account, taken, taken_by, spent, figure, log_room, with_line, decided, logged, fresh}
 use Rattle.commands.specs.Promise.{costs, Kept, Moved, Unmoved, Changes}
 use Rattle.commands.proofs.Totals.{total_but, term_le}
 use Rattle.commands.proofs.Logs.{taken_more, spent_more, next_line, no_line_more}
 
--- a line that takes an output
-taking : (account : Account) (lines : List Line) (o s : ℕ) → o < account.outputs → taken lines o ≡ false
-    → Moved account lines (with_line lines (Take o) (Taken s)) o s false true
-taking account lines o s inside free = record {
+-- a line that takes or puts back one output
+moving : (account : Account) (lines : List Line) (command : Command) (answer : Answer) (o s : ℕ) (old new : Bool)
+    → ((p : ℕ) (b : Bool) → taken_by p b command answer ≡ cond (eqb p o) new b) → figure (spent lines) answer ≡ s
+    → o < account.outputs → taken lines o ≡ old → Moved account lines (with_line lines command answer) o s old new
+moving account lines command answer o s old new by told inside was = record {
   output = inside;
-  was = free;
-  is = taken_more lines (Take o) (Taken s) o ∙ cond-true _ _ _ (eq-eqb o o refl);
-  others = λ p ne. taken_more lines (Take o) (Taken s) p ∙ cond-false _ _ _ (ne_eqb p o ne);
-  figure = spent_more lines (Take o) (Taken s);
-}
-
--- a line that puts one back
-putting : (account : Account) (lines : List Line) (o s : ℕ) → o < account.outputs → taken lines o ≡ true
-    → Moved account lines (with_line lines (Back o) (PutBack s)) o s true false
-putting account lines o s inside held = record {
-  output = inside;
-  was = held;
-  is = taken_more lines (Back o) (PutBack s) o ∙ cond-true _ _ _ (eq-eqb o o refl);
-  others = λ p ne. taken_more lines (Back o) (PutBack s) p ∙ cond-false _ _ _ (ne_eqb p o ne);
-  figure = spent_more lines (Back o) (PutBack s);
+  was = was;
+  is = taken_more lines command answer o ∙ by o (taken lines o) ∙ cond-true _ _ _ (eq-eqb o o refl);
+  others = λ p ne. taken_more lines command answer p ∙ by p (taken lines p) ∙ cond-false _ _ _ (ne_eqb p o ne);
+  figure = spent_more lines command answer ∙ told;
 }
 
 -- a taken output costs no more than is spent
@@ -44,6 +35,16 @@ cost_le_spent account lines o k inside held =
     let s = k.sum in
     omega arith
 
+-- an answer does to a log what it tells, within the limit
+record Does (account : Account) (lines : List Line) (command : Command) (answer : Answer) : Type 0 where
+  changes : Changes account lines (with_line lines command answer) command answer
+  within : figure (spent lines) answer ≤ account.limit
+
+-- a refusal changes nothing
+refused_does : (account : Account) (lines : List Line) (command : Command) (why : Refusal) → Kept account lines → Does account lines command (Refused why)
+refused_does account lines (Take o) why k = record { changes = record { outputs = taken_more lines _ _; figure = spent_more lines _ _ }; within = k.within }
+refused_does account lines (Back o) why k = record { changes = record { outputs = taken_more lines _ _; figure = spent_more lines _ _ }; within = k.within }
+
 -- the answer to a take, by its three tests
 abbrev take_answer : Account → List Line → ℕ → Bool → Bool → Bool → Answer
 take_answer account lines o inside held fits =
@@ -52,50 +53,56 @@ take_answer account lines o inside held fits =
     (cond fits (Taken (spent lines + account.cost o)) (Refused (OverLimit (spent lines + account.cost o - account.limit)))))
     (Refused NoOutput)
 
-take_changes : (account : Account) (lines : List Line) (o : ℕ) (inside held fits : Bool)
-    → ltb o account.outputs ≡ inside → taken lines o ≡ held
-    → Changes account lines (with_line lines (Take o) (take_answer account lines o inside held fits)) (Take o) (take_answer account lines o inside held fits)
-take_changes account lines o false held fits i h = record { outputs = taken_more lines (Take o) _; figure = spent_more lines (Take o) _ }
-take_changes account lines o true true fits i h = record { outputs = taken_more lines (Take o) _; figure = spent_more lines (Take o) _ }
-take_changes account lines o true false false i h = record { outputs = taken_more lines (Take o) _; figure = spent_more lines (Take o) _ }
-take_changes account lines o true false true i h = (taking account lines o _ (ltb-true _ _ i) h, refl)
+take_does : (account : Account) (lines : List Line) (o : ℕ) (inside held fits : Bool) → Kept account lines
+    → ltb o account.outputs ≡ inside → taken lines o ≡ held → leb (spent lines + account.cost o) account.limit ≡ fits
+    → Does account lines (Take o) (take_answer account lines o inside held fits)
+take_does account lines o false held fits k i h f = refused_does account lines (Take o) _ k
+take_does account lines o true true fits k i h f = refused_does account lines (Take o) _ k
+take_does account lines o true false false k i h f = refused_does account lines (Take o) _ k
+take_does account lines o true false true k i h f = record {
+  changes = (moving account lines (Take o) _ o _ false true (λ p b. refl) refl (ltb-true _ _ i) h, refl);
+  within = leb-true _ _ f;
+}
 
 -- the answer to a back, by its two tests
 abbrev back_answer : Account → List Line → ℕ → Bool → Bool → Answer
 back_answer account lines o inside held =
     cond inside (cond held (PutBack (spent lines - account.cost o)) (Refused NotTaken)) (Refused NoOutput)
 
-back_changes : (account : Account) (lines : List Line) (o : ℕ) (inside held : Bool) → Kept account lines
-    → ltb o account.outputs ≡ inside → taken lines o ≡ held
-    → Changes account lines (with_line lines (Back o) (back_answer account lines o inside held)) (Back o) (back_answer account lines o inside held)
-back_changes account lines o false held k i h = record { outputs = taken_more lines (Back o) _; figure = spent_more lines (Back o) _ }
-back_changes account lines o true false k i h = record { outputs = taken_more lines (Back o) _; figure = spent_more lines (Back o) _ }
-back_changes account lines o true true k i h =
-    let c = cost_le_spent account lines o k (ltb-true _ _ i) h in
-    (putting account lines o _ (ltb-true _ _ i) h, omega arith)
+back_does : (account : Account) (lines : List Line) (o : ℕ) (inside held : Bool) → Kept account lines
+    → ltb o account.outputs ≡ inside → taken lines o ≡ held → Does account lines (Back o) (back_answer account lines o inside held)
+back_does account lines o false held k i h = refused_does account lines (Back o) _ k
+back_does account lines o true false k i h = refused_does account lines (Back o) _ k
+back_does account lines o true true k i h =
+    let inside = ltb-true _ _ i in
+    let c = cost_le_spent account lines o k inside h in
+    let w = k.within in
+    record {
+      changes = (moving account lines (Back o) _ o _ true false (λ p b. refl) refl inside h, omega arith);
+      within = omega arith;
+    }
+
+does : (account : Account) (lines : List Line) (command : Command) → Kept account lines → Does account lines command (decided account lines command)
+does account lines (Take o) k = take_does account lines o _ _ _ k refl refl refl
+does account lines (Back o) k = back_does account lines o _ _ k refl refl
 
 pub decided_changes : (account : Account) (lines : List Line) (command : Command) → Kept account lines
     → Changes account lines (with_line lines command (decided account lines command)) command (decided account lines command)
-decided_changes account lines (Take o) k = take_changes account lines o _ _ _ refl refl
-decided_changes account lines (Back o) k = back_changes account lines o _ _ k refl refl
+decided_changes account lines command k = (does account lines command k).changes
 
--- no answer has a figure past the limit
-figure_within : (account : Account) (lines : List Line) (command : Command) → Kept account lines
-    → figure (spent lines) (decided account lines command) ≤ account.limit
-figure_within account lines (Take o) k = go (ltb o account.outputs) (taken lines o) (leb (spent lines + account.cost o) account.limit) refl
-  where
-    go : (inside held fits : Bool) → leb (spent lines + account.cost o) account.limit ≡ fits
-        → figure (spent lines) (take_answer account lines o inside held fits) ≤ account.limit
-    go false held fits e = k.within
-    go true true fits e = k.within
-    go true false false e = k.within
-    go true false true e = leb-true _ _ e
-figure_within account lines (Back o) k = go (ltb o account.outputs) (taken lines o)
-  where
-    go : (inside held : Bool) → figure (spent lines) (back_answer account lines o inside held) ≤ account.limit
-    go false held = k.within
-    go true false = k.within
-    go true true = let w = k.within in omega arith
+-- what is changed: one output, by its cost, or nothing
+data Change (account : Account) (before after : List Line) : Type 0 where
+  moves : (o told : ℕ) (old new : Bool) → Moved account before after o told old new
+      → spent after + cond old (account.cost o) 0 ≡ spent before + cond new (account.cost o) 0 → Change account before after
+  stays : Unmoved before after → Change account before after
+
+change : (account : Account) (before after : List Line) (command : Command) (answer : Answer) → Changes account before after command answer → Change account before after
+change account before after (Take o) (Taken s) c = let f = c.0.figure in let g = c.1 in moves o s false true c.0 (omega arith)
+change account before after (Take o) (PutBack s) c = absurd c
+change account before after (Take o) (Refused r) c = stays c
+change account before after (Back o) (Taken s) c = absurd c
+change account before after (Back o) (PutBack s) c = let f = c.0.figure in let g = c.1 in moves o s true false c.0 (omega arith)
+change account before after (Back o) (Refused r) c = stays c
 
 -- the costs of the taken outputs, where one alone was taken or put back
 moved_costs : (account : Account) (before after : List Line) (o told : ℕ) (old new : Bool) → Moved account before after o told old new
@@ -105,55 +112,31 @@ moved_costs account before after o told old new m =
     (λ p ne. ap (λ b. cond b (account.cost p) 0) (m.others p ne)) in
     rw (← m.was, ← m.is) t
 
-unmoved_costs : (account : Account) (before after : List Line) → Unmoved before after → costs account (taken after) ≡ costs account (taken before)
-unmoved_costs account before after u = ap (costs account) (fun_ext u.outputs)
-
 -- the sum stays true
-changed_sum : (account : Account) (before after : List Line) (command : Command) (answer : Answer) → Changes account before after command answer
+changed_sum : (account : Account) (before after : List Line) → Change account before after
     → spent before ≡ costs account (taken before) → spent after ≡ costs account (taken after)
-changed_sum account before after (Take o) (Taken s) c e =
-    let t = moved_costs account before after o s false true c.0 in
-    let f = c.0.figure in
-    let g = c.1 in
-    omega arith
-changed_sum account before after (Take o) (PutBack s) c e = absurd c
-changed_sum account before after (Take o) (Refused r) c e = c.figure ∙ e ∙ sym (unmoved_costs account before after c)
-changed_sum account before after (Back o) (Taken s) c e = absurd c
-changed_sum account before after (Back o) (PutBack s) c e =
-    let t = moved_costs account before after o s true false c.0 in
-    let f = c.0.figure in
-    let g = c.1 in
-    omega arith
-changed_sum account before after (Back o) (Refused r) c e = c.figure ∙ e ∙ sym (unmoved_costs account before after c)
+changed_sum account before after (moves o told old new m f) e = let t = moved_costs account before after o told old new m in omega arith
+changed_sum account before after (stays u) e = u.figure ∙ e ∙ ap (costs account) (sym (fun_ext u.outputs))
 
--- only what is there is taken, where one output was taken or put back
-moved_there : (account : Account) (before after : List Line) (o told : ℕ) (old new : Bool) → Moved account before after o told old new
+-- only what is there is taken
+changed_there : (account : Account) (before after : List Line) → Change account before after
     → ((p : ℕ) → taken before p ≡ true → p < account.outputs) → (p : ℕ) → taken after p ≡ true → p < account.outputs
-moved_there account before after o told old new m h p held =
-    ⊎_elim (λ e. rw e m.output) (λ ne. h p (sym (m.others p ne) ∙ held)) (cases_eq p o)
-
-unmoved_there : (account : Account) (before after : List Line) → Unmoved before after
-    → ((p : ℕ) → taken before p ≡ true → p < account.outputs) → (p : ℕ) → taken after p ≡ true → p < account.outputs
-unmoved_there account before after u h p held = h p (sym (u.outputs p) ∙ held)
-
-changed_there : (account : Account) (before after : List Line) (command : Command) (answer : Answer) → Changes account before after command answer
-    → ((p : ℕ) → taken before p ≡ true → p < account.outputs) → (p : ℕ) → taken after p ≡ true → p < account.outputs
-changed_there account before after (Take o) (Taken s) c = moved_there account before after o s false true c.0
-changed_there account before after (Take o) (PutBack s) c = absurd c
-changed_there account before after (Take o) (Refused r) c = unmoved_there account before after c
-changed_there account before after (Back o) (Taken s) c = absurd c
-changed_there account before after (Back o) (PutBack s) c = moved_there account before after o s true false c.0
-changed_there account before after (Back o) (Refused r) c = unmoved_there account before after c
+changed_there account before after (moves o told old new m f) h p held = ⊎_elim (λ e. rw e m.output) (λ ne. h p (sym (m.others p ne) ∙ held)) (cases_eq p o)
+changed_there account before after (stays u) h p held = h p (sym (u.outputs p) ∙ held)
 
 -- the account is kept by a fresh command
-pub line_keeps : (account : Account) (lines : List Line) (command : Command) → Kept account lines → length lines < log_room
+line_keeps : (account : Account) (lines : List Line) (command : Command) → Kept account lines → length lines < log_room
     → Kept account (with_line lines command (decided account lines command))
-line_keeps account lines command k few = record {
-  sum = changed_sum account lines _ command _ (decided_changes account lines command k) k.sum;
-  within = rw (spent_more lines command (decided account lines command)) (figure_within account lines command k);
-  there = changed_there account lines _ command _ (decided_changes account lines command k) k.there;
-  room = rw (length_push lines (record { command = command; answer = decided account lines command })) (omega arith);
-}
+line_keeps account lines command k few =
+    let answer : Answer = decided account lines command in
+    let d = does account lines command k in
+    let c = change account lines (with_line lines command answer) command answer d.changes in
+    record {
+      sum = changed_sum account lines _ c k.sum;
+      within = rw (spent_more lines command answer) d.within;
+      there = changed_there account lines _ c k.there;
+      room = rw (length_push lines (record { command = command; answer = answer })) (omega arith);
+    }
 
 -- and by any
 pub logged_keeps : (account : Account) (lines : List Line) (number : ℕ) (command : Command) → Kept account lines → Kept account (logged account lines number command)

@@ -1,5 +1,6 @@
 -- What a line more makes of a log, and how numbers find their lines.
 use Rattle.std.proofs.Common.{◌≡◌, ℕ, ◌+◌, ◌-◌, true, false, eqb, ltb, leb, List, [], ◌∷◌, ◌++◌, length, get_or, refl, ap, ◌∙◌, arith}
+use Rattle.std.proofs.lemmas.Grind.{common_steps}
 use Rattle.std.proofs.lemmas.List.{append_assoc, length-append, get_or_at}
 use Rattle.std.proofs.lemmas.List.Sums.{fold_push}
 use Rattle.std.proofs.lemmas.Bool.{and_parts, and_from, and_left, or_from, cond-true, cond-false, eqb-true, leb-true, ne_eqb, eq-eqb, le-ltb, le-leb, lt-leb}
@@ -20,64 +21,41 @@ spent_more lines command answer =
     fold_push (λ before line. figure before line.answer) 0 lines (record { command = command; answer = answer })
 
 pub same_self : (command : Command) → same_command command command ≡ true
-same_self (Take o) = eq-eqb o o refl
-same_self (Back o) = eq-eqb o o refl
+same_self (Take o) = grind arith
+same_self (Back o) = grind arith
 
 -- a command and the log after it
 pub next_line : (account : Account) (lines : List Line) (number : ℕ) (command : Command) → fresh lines number ≡ true
     → logged account lines number command ≡ with_line lines command (decided account lines command)
-next_line account lines number command h = cond-true _ _ _ h
+next_line account lines number command h = grind arith
 
 pub no_line_more : (account : Account) (lines : List Line) (number : ℕ) (command : Command) → fresh lines number ≡ false → logged account lines number command ≡ lines
-no_line_more account lines number command h = cond-false _ _ _ h
+no_line_more account lines number command h = grind arith
 
 pub fresh_answer : (account : Account) (lines : List Line) (number : ℕ) (command : Command) → fresh lines number ≡ true
     → numbered account lines number command ≡ decided account lines command
-fresh_answer account lines number command h =
-    let p = and_parts (eqb number (length lines + 1)) (ltb (length lines) log_room) h in
-    let n = eqb-true number (length lines + 1) p.0 in
-    cond-false _ _ _ (or_from (eqb number 0) _ (ne_eqb _ _ (omega arith)) (le-ltb _ _ (omega arith)))
-    ∙ cond-false _ _ _ (lt-leb number (length lines) (omega arith))
-    ∙ cond-true _ _ _ p.1
+fresh_answer account lines number command h = grind arith
 
 -- a repeat is answered by its line
 pub repeat_answer : (account : Account) (lines : List Line) (s : Sent) → repeats lines s ≡ true
     → numbered account lines s.number s.command ≡ (line_of lines s.number).answer
-repeat_answer account lines s h =
-    let p = and_parts (used lines s.number) _ h in
-    let q = and_parts (leb 1 s.number) (leb s.number (length lines)) p.0 in
-    let low = leb-true 1 s.number q.0 in
-    let high = leb-true s.number (length lines) q.1 in
-    cond-false _ _ _ (or_from (eqb s.number 0) _ (ne_eqb _ _ (omega arith)) (le-ltb _ _ (omega arith)))
-    ∙ cond-true _ _ _ q.1
-    ∙ cond-true _ _ _ p.1
+repeat_answer account lines s h = grind arith
 
 pub repeat_is_not_fresh : (lines : List Line) (s : Sent) → repeats lines s ≡ true → fresh lines s.number ≡ false
-repeat_is_not_fresh lines s h =
-    let p = and_parts (used lines s.number) _ h in
-    let q = and_parts (leb 1 s.number) (leb s.number (length lines)) p.0 in
-    let high = leb-true s.number (length lines) q.1 in
-    and_left (eqb s.number (length lines + 1)) _ (ne_eqb _ _ (omega arith))
+repeat_is_not_fresh lines s h = grind arith
 
 -- so it adds no line
 pub repeat_log : (account : Account) (lines : List Line) (s : Sent) → repeats lines s ≡ true → logged account lines s.number s.command ≡ lines
-repeat_log account lines s h = no_line_more account lines s.number s.command (repeat_is_not_fresh lines s h)
+repeat_log account lines s h = grind arith
 
 -- a line is found under its number, whatever lines follow
 pub line_again : (lines : List Line) (line : Line) (rest : List Line) (number : ℕ) → number ≡ length lines + 1
     → line_of ((lines ++ line ∷ []) ++ rest) number ≡ line
-line_again lines line rest number e =
-    ap (λ l. get_or l (number - 1) no_line) (append_assoc lines (line ∷ []) rest)
-    ∙ get_or_at lines line rest no_line (number - 1) (omega arith)
+line_again lines line rest number e = grind (arith, append_assoc, get_or_at)
 
 -- and its command is a repeat there
 pub repeats_again : (lines : List Line) (command : Command) (answer : Answer) (rest : List Line) (number : ℕ) → number ≡ length lines + 1
     → repeats (with_line lines command answer ++ rest) (record { number = number; command = command }) ≡ true
-repeats_again lines command answer rest number e =
-    let line : Line = record { command = command; answer = answer } in
-    let f = line_again lines line rest number e in
-    let n : length ((lines ++ line ∷ []) ++ rest) ≡ (length lines + 1) + length rest
-    = simp length-append in
-    and_from _ _
-    (and_from _ _ (le-leb 1 number (omega arith)) (le-leb number _ (omega arith)))
-    (ap (λ l. same_command l.command command) f ∙ same_self command)
+repeats_again lines command answer rest number e = 
+    let f = line_again lines (record { command = command; answer = answer }) rest number e in
+    grind (arith, common_steps, f, same_self command)
