@@ -2,3 +2,4 @@
 pub mod Rules
 pub mod Standing
 pub mod Promise
+pub mod Text

@@ -5,7 +5,7 @@ use diagram::Node;
 use refusal::Refusal;
 
 // One call of a service. A draw says how many nodes its buffer has room for.
-#[derive(Clone, Copy)]
+#[derive(Clone, Copy, PartialEq, Eq, Debug)]
 pub enum Call {
     Take { number: u32, output: u32 },
     Back { number: u32, output: u32 },
@@ -32,7 +32,9 @@ pub struct Shown {
 }
 
 // The reply to one call of a run.
-#[derive(Drop)]
+// No Result: a reply is listed among the others of its run whatever it was, nobody passes a refused one up by `?`, and
+// an enum inside a Result would make each match one level deeper.
+#[derive(PartialEq, Eq, Debug, Drop)]
 pub enum Reply {
     Answered(Answer),
     Asked(Asked),
