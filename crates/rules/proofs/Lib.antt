@@ -3,6 +3,5 @@ pub mod Runs
 pub mod Repeats
 pub mod Handed
 pub mod Fits
-pub mod Refusals
 pub mod Altered
 pub mod Promise

@@ -1,5 +1,5 @@
 -- The promise, from its parts.
-use Rattle.std.proofs.Common.{◌≡◌, ℕ, ◌*◌, ◌^◌, ◌<◌, ◌≤◌, true, false, List, [], ◌∷◌, ◌++◌, length, sym, refl, ap, ◌∙◌, zero-mul}
+use Rattle.std.proofs.Common.{◌≡◌, ℕ, ◌*◌, ◌^◌, ◌<◌, ◌≤◌, true, false, List, [], ◌∷◌, ◌++◌, length, sym, refl, ap, ◌∙◌, zero-mul, arith}
 use Rattle.std.proofs.lemmas.Bool.{cond-true, cond-false, lt-ltb, le-ltb}
 use Rattle.refusal.specs.declared.table.Refusal.TheVariants.{NumberUsed}
 use Rattle.rows.proofs.Sums.{sum_none}
@@ -21,7 +21,6 @@ use Rattle.rules.specs.Promise.{Promised, hears, heard_from, is_repeat}
 use Rattle.rules.proofs.Runs.{replies_one, sent_reply, repeat_adds_none, others_add_none, lines_without, calls_keep}
 use Rattle.rules.proofs.Handed.{digits, reads_symmetric, reads_design, misread_taken, misread_free, spent_true}
 use Rattle.rules.proofs.Fits.{limited_take}
-use Rattle.rules.proofs.Refusals.{full_log, gap_told, used_told, absent_take, absent_back, second_take, idle_back}
 use Rattle.rules.proofs.Altered.{fresh_command}
 use Rattle.rules.proofs.Repeats.{was_earlier, is_repeated}
 
@@ -31,7 +30,7 @@ shown_nearest t before o inside =
     record {
       vector = bits t.meaning o;
       wrong = wrong t.meaning o;
-      shows = cond-true _ _ _ (lt-ltb _ _ inside);
+      shows = grind arith;
       fits = c.fits;
       exact = c.exact;
       least = c.least;
@@ -43,24 +42,24 @@ replaced t before o inside held = record {
   wrong = misread_taken t before o inside held;
   drawing = drawing t o;
   reduced = reduced t.meaning.inputs (bits t.meaning o);
-  draws_it = λ room h. cond-true _ _ _ (lt-ltb _ _ inside) ∙ cond-true _ _ _ held ∙ cond-false _ _ _ (le-ltb _ _ h);
-  too_short = λ room h. cond-true _ _ _ (lt-ltb _ _ inside) ∙ cond-true _ _ _ held ∙ cond-true _ _ _ (lt-ltb _ _ h);
+  draws_it = λ room h. grind arith;
+  too_short = λ room h. grind arith;
 }
 
 untouched : (t : Terms) (before : List Call) (o : ℕ) → o < t.meaning.outputs → taken (lines t before) o ≡ false → Untouched t before o
 untouched t before o inside free = record {
   reads = λ r row. reads_design t (lines t before) o r inside row free;
   wrong = misread_free t before o inside free;
-  draws_none = λ room. cond-true _ _ _ (lt-ltb _ _ inside) ∙ cond-false _ _ _ free;
+  draws_none = λ room. grind arith;
 }
 
 absent : (t : Terms) (before : List Call) (o : ℕ) → t.meaning.outputs ≤ o → Absent t before (length (lines t before)) o
 absent t before o out = record {
-  shows = cond-false _ _ _ (le-ltb _ _ out);
-  reads = λ r. cond-false _ _ _ (le-ltb _ _ out);
-  draws_none = λ room. cond-false _ _ _ (le-ltb _ _ out);
-  takes = λ few. ap answered (absent_take (account t) (lines t before) o few out);
-  backs = λ few. ap answered (absent_back (account t) (lines t before) o few out);
+  shows = grind arith;
+  reads = λ r. grind arith;
+  draws_none = λ room. grind arith;
+  takes = λ few. grind arith;
+  backs = λ few. grind arith;
 }
 
 pub stands : (t : Terms) (before : List Call) → Stands t before
@@ -81,18 +80,19 @@ stands t before =
       symmetric = λ o inside h. replaced t before o inside (sym (d o) ∙ h);
       design = λ o inside h. untouched t before o inside (sym (d o) ∙ h);
       absent = absent t before;
-      no_row = λ o r inside out. cond-true _ _ _ (lt-ltb _ _ inside) ∙ cond-false _ _ _ (le-ltb _ _ out);
-      none_to_return = λ o inside h few. ap answered (idle_back (account t) (lines t before) o few inside (sym (d o) ∙ h));
+      no_row = λ o r inside out. grind arith;
+      none_to_return = λ o inside h few. let free = sym (d o) ∙ h in grind arith;
       taken_twice = λ o h few.
           let held = sym (d o) ∙ h in
-          ap answered (second_take (account t) (lines t before) o few (k.there o held) held);
+          let inside = k.there o held in
+          grind arith;
       limited = λ o inside h few. limited_take t before o few inside (sym (d o) ∙ h);
       returned = λ o h few.
           let held = sym (d o) ∙ h in
           (_, ap answered (put_back (account t) (lines t before) o few (k.there o held) held));
       fresh = fresh_command t before;
-      full = λ c e. sent_reply t (lines t before) _ c ∙ ap answered (full_log (account t) (lines t before) c e);
-      gap = λ n c h. sent_reply t (lines t before) n c ∙ ap answered (gap_told (account t) (lines t before) n c h);
+      full = λ c e. grind (arith, sent_reply t (lines t before));
+      gap = λ n c h. grind (arith, sent_reply t (lines t before));
     }
 
 opened : (t : Terms) → says t [] call.Ask ≡ asked t.limit 0 0 0
@@ -110,8 +110,8 @@ without t before later c h d = ap (λ l. reply t l d) (lines_without t before la
 
 number_used : (t : Terms) (log : List Line) (k : ℕ) (c : Command) → used log k ≡ true → is_repeat log (sent k c) ≡ false
     → reply t log (sent k c) ≡ answered (Refused (NumberUsed k))
-number_used t log k (Take o) u h = ap answered (used_told (account t) log k (Take o) u h)
-number_used t log k (Back o) u h = ap answered (used_told (account t) log k (Back o) u h)
+number_used t log k (Take o) u h = grind arith
+number_used t log k (Back o) u h = grind arith
 
 -- a repeat changes nothing
 repeats_idle : (t : Terms) → Idle (logs t) (hears t) (λ h. h.made) (λ h. is_repeat h.before h.made)

@@ -1,7 +1,7 @@
 -- A call is a repeat exactly if it was fresh before.
 use Rattle.std.proofs.Common.{◌≡◌, ℕ, ◌+◌, ◌-◌, Bool, true, false, leb, ◌⊎◌, List, [], ◌∷◌, ◌++◌, length, sym, refl, ap, ◌∙◌, ap₂, inl, inr, ⊎_elim, arith}
 use Rattle.std.proofs.lemmas.List.{length_push, get_or_append_left, get_or_at}
-use Rattle.std.proofs.lemmas.Bool.{cases_lt, and_parts, and_from, eqb-true, leb-true, le-leb, false≢true}
+use Rattle.std.proofs.lemmas.Bool.{cases_Bool, cases_lt, and_parts, and_from, eqb-true, leb-true, le-leb, false≢true}
 use Rattle.commands.specs.declared.command.Command.{Command}
 use Rattle.commands.specs.declared.command.Command.TheVariants.{Take, Back}
 use Rattle.commands.specs.declared.command.Answer.{Answer}
@@ -13,35 +13,27 @@ use Rattle.rules.specs.declared.call.Call.{Call}
 use Rattle.rules.specs.declared.call.Call.TheVariants as call
 use Rattle.rules.specs.Rules.{Terms, account, logs, lines_from, lines, says}
 use Rattle.rules.specs.Standing.{sent}
-use Rattle.rules.specs.Promise.{is_repeat, Earlier}
-use Rattle.rules.proofs.Runs.{lines_past, said_again}
+use Rattle.rules.specs.Promise.{is_repeat, is_fresh, Earlier}
+use Rattle.rules.proofs.Runs.{lines_past, said_again, sent_reply}
 
 abbrev under : ℕ → Command → Sent
 under k c = record { number = k; command = c }
 
 same_true : (x c : Command) → same_command x c ≡ true → x ≡ c
-same_true (Take a) (Take b) h = ap Take (eqb-true a b h)
-same_true (Take a) (Back b) h = absurd (false≢true h)
-same_true (Back a) (Take b) h = absurd (false≢true h)
-same_true (Back a) (Back b) h = ap Back (eqb-true a b h)
+same_true (Take a) (Take b) h = grind arith
+same_true (Take a) (Back b) h = grind arith
+same_true (Back a) (Take b) h = grind arith
+same_true (Back a) (Back b) h = grind arith
 
 -- with one line more, a repeat was one before, or is that line's command
 new_repeat : (log : List Line) (x : Command) (a : Answer) (k : ℕ) (c : Command) → repeats (with_line log x a) (under k c) ≡ true
     → (repeats log (under k c) ≡ true) ⊎ ((k ≡ length log + 1) × (x ≡ c))
 new_repeat log x a k c h =
     let line : Line = record { command = x; answer = a } in
-    let p = and_parts (used (with_line log x a) k) _ h in
-    let q = and_parts (leb 1 k) (leb k (length (with_line log x a))) p.0 in
-    let low = leb-true 1 k q.0 in
-    let high = leb-true k (length (with_line log x a)) q.1 in
     let n = length_push log line in
     ⊎_elim
-    (λ less.
-    let e = get_or_append_left log (line ∷ []) no_line (k - 1) (omega arith) in
-    inl (and_from _ _ (and_from _ _ q.0 (le-leb k (length log) (omega arith))) (ap (λ l. same_command l.command c) (sym e) ∙ p.1)))
-    (λ more.
-    let e = get_or_at log line [] no_line (k - 1) (omega arith) in
-    inr (omega arith, same_true x c (ap (λ l. same_command l.command c) (sym e) ∙ p.1)))
+    (λ less. let e = get_or_append_left log (line ∷ []) no_line (k - 1) (grind arith) in inl (grind arith))
+    (λ more. let e = get_or_at log line [] no_line (k - 1) (grind arith) in inr (grind arith, same_true x c (grind arith)))
     (cases_lt k (length log + 1))
 
 -- a command after which another is a repeat is that one, fresh, unless it was a repeat before
@@ -50,17 +42,13 @@ Step t log d k c = (repeats log (under k c) ≡ true) ⊎ ((d ≡ sent k c) × (
 
 command_step : (t : Terms) (log : List Line) (j : ℕ) (x : Command) (k : ℕ) (c : Command) → repeats (logged (account t) log j x) (under k c) ≡ true
     → Step t log (sent j x) k c
-command_step t log j x k c h = go (fresh log j) refl
-  where
-    go : (b : Bool) → fresh log j ≡ b → Step t log (sent j x) k c
-    go true new =
-        let j-next = eqb-true j (length log + 1) (and_parts _ _ new).0 in
-        ⊎_elim inl
-        (λ f.
-        let e : j ≡ k = j-next ∙ sym f.0 in
-        inr (ap₂ sent e f.1, ap (fresh log) (sym e) ∙ new))
-        (new_repeat log x (decided (account t) log x) k c (ap (λ l. repeats l (under k c)) (sym (next_line (account t) log j x new)) ∙ h))
-    go false old = inl (ap (λ l. repeats l (under k c)) (sym (no_line_more (account t) log j x old)) ∙ h)
+command_step t log j x k c h =
+    ⊎_elim
+    (λ new.
+    let old = new_repeat log x (decided (account t) log x) k c (grind arith) in
+    ⊎_elim inl (λ f. let e : j ≡ k = grind arith in inr (ap₂ sent e f.1, grind arith)) old)
+    (λ old. inl (grind arith))
+    (cases_Bool (fresh log j))
 
 call_step : (t : Terms) (log : List Line) (d : Call) (k : ℕ) (c : Command) → repeats (logs t log d) (under k c) ≡ true → Step t log d k c
 call_step t log (call.Take j o) k c h = command_step t log j (Take o) k c h
@@ -85,35 +73,28 @@ found t (d ∷ later) log k c h =
     (λ f. inr (d ∷ f.0, f.1, ap (λ l. d ∷ l) f.2, f.3))
     (found t later (logs t log d) k c h)
 
-none_repeats : (k : ℕ) (c : Command) → repeats [] (under k c) ≡ true → ⊥
-none_repeats k c h =
-    let q = and_parts (leb 1 k) (leb k 0) (and_parts (used [] k) _ h).0 in
-    let low = leb-true 1 k q.0 in
-    let high = leb-true k 0 q.1 in
-    omega arith
-
 earlier_from : (t : Terms) (before : List Call) (k : ℕ) (c : Command) → repeats (lines t before) (under k c) ≡ true → Found t [] before k c
-earlier_from t before k c h = ⊎_elim (λ r. absurd (none_repeats k c r)) (λ f. f) (found t before [] k c h)
+earlier_from t before k c h = ⊎_elim (λ r. absurd (grind arith)) (λ f. f) (found t before [] k c h)
+
+-- a command is fresh as its number is
+sent_fresh : (log : List Line) (k : ℕ) (c : Command) → is_fresh log (sent k c) ≡ fresh log k
+sent_fresh log k (Take o) = refl
+sent_fresh log k (Back o) = refl
+
+earlier_sent : (t : Terms) (before : List Call) (k : ℕ) (c : Command) → repeats (lines t before) (under k c) ≡ true → Earlier t before (sent k c)
+earlier_sent t before k c h =
+    let f = earlier_from t before k c h in
+    record {
+      earlier = f.0;
+      between = f.1;
+      parts = f.2;
+      was_fresh = sent_fresh (lines t f.0) k c ∙ f.3;
+      same = ap (λ l. says t l (sent k c)) f.2 ∙ said_again t f.0 f.1 k c f.3 ∙ sym (sent_reply t (lines t f.0) k c);
+    }
 
 pub was_earlier : (t : Terms) (before : List Call) (c : Call) → is_repeat (lines t before) c ≡ true → Earlier t before c
-was_earlier t before (call.Take k o) h =
-    let f = earlier_from t before k (Take o) h in
-    record {
-      earlier = f.0;
-      between = f.1;
-      parts = f.2;
-      was_fresh = f.3;
-      same = ap (λ l. says t l (call.Take k o)) f.2 ∙ said_again t f.0 f.1 k (Take o) f.3;
-    }
-was_earlier t before (call.Back k o) h =
-    let f = earlier_from t before k (Back o) h in
-    record {
-      earlier = f.0;
-      between = f.1;
-      parts = f.2;
-      was_fresh = f.3;
-      same = ap (λ l. says t l (call.Back k o)) f.2 ∙ said_again t f.0 f.1 k (Back o) f.3;
-    }
+was_earlier t before (call.Take k o) h = earlier_sent t before k (Take o) h
+was_earlier t before (call.Back k o) h = earlier_sent t before k (Back o) h
 was_earlier t before call.Ask h = absurd (false≢true h)
 was_earlier t before (call.Show o) h = absurd (false≢true h)
 was_earlier t before (call.Read o r) h = absurd (false≢true h)
