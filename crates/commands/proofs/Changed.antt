@@ -1,8 +1,8 @@
 -- What a fresh command changes, and that the account is kept by it.
-use Rattle.std.proofs.Common.{◌≡◌, ℕ, ◌+◌, ◌-◌, ◌<◌, ◌≤◌, Bool, true, false, cond, eqb, ltb, leb, List, length, sym, refl, ap, ◌∙◌, ⊎_elim, arith}
+use Rattle.std.proofs.Common.{◌≡◌, ℕ, ◌+◌, ◌-◌, ◌<◌, ◌≤◌, Bool, true, false, cond, eqb, ltb, leb, List, length, sym, refl, ap, ◌∙◌, arith}
 use mathlib.Core.Path.{fun_ext}
 use Rattle.std.proofs.lemmas.List.{length_push}
-use Rattle.std.proofs.lemmas.Bool.{cases_eq, and_parts, cond-true, cond-false, eq-eqb, ne_eqb, leb-true, ltb-true}
+use Rattle.std.proofs.lemmas.Bool.{and_parts, cond-true, cond-false, eq-eqb, ne_eqb, leb-true, ltb-true}
 use Rattle.refusal.specs.declared.table.Refusal.{Refusal}
 use Rattle.refusal.specs.declared.table.Refusal.TheVariants.{NoOutput, AlreadyTaken, NotTaken, OverLimit}
 use Rattle.commands.specs.declared.command.Command.{Command}
@@ -121,8 +121,8 @@ changed_sum account before after (stays u) e = u.figure ∙ e ∙ ap (costs acco
 -- only what is there is taken
 changed_there : (account : Account) (before after : List Line) → Change account before after
     → ((p : ℕ) → taken before p ≡ true → p < account.outputs) → (p : ℕ) → taken after p ≡ true → p < account.outputs
-changed_there account before after (moves o told old new m f) h p held = ⊎_elim (λ e. rw e m.output) (λ ne. h p (sym (m.others p ne) ∙ held)) (cases_eq p o)
-changed_there account before after (stays u) h p held = h p (sym (u.outputs p) ∙ held)
+changed_there account before after (moves o told old new m f) h p held = grind arith
+changed_there account before after (stays u) h p held = grind arith
 
 -- the account is kept by a fresh command
 line_keeps : (account : Account) (lines : List Line) (command : Command) → Kept account lines → length lines < log_room

@@ -3,8 +3,7 @@ use Rattle.std.proofs.Common.{◌≡◌, true, List, [], ◌∷◌, ◌++◌, sy
 use Rattle.std.proofs.lemmas.List.Folds.{fold_along}
 use Rattle.std.proofs.lemmas.Bool.{false≢true}
 use Rattle.rows.proofs.Sums.{sum_zero}
-use Rattle.commands.specs.declared.command.Line.{Line}
-use Rattle.commands.specs.Rules.{Account, Sent, taken, spent, with_line, numbered, fresh, repeats, next, hears, lines_from, lines_after, heard_from}
+use Rattle.commands.specs.Rules.{Account, Sent, taken, spent, with_line, fresh, repeats, next, hears, lines_from, lines_after, heard_from}
 use Rattle.commands.specs.Promise.{Kept, Fresh, Repeat, CommandsKeepTheirPromise}
 use Rattle.commands.proofs.Logs.{next_line, no_line_more, fresh_answer, repeat_answer, repeat_log}
 use Rattle.commands.proofs.Runs.{lines_one, answers_one, log_begins, grown_past, answered_again}

@@ -1,13 +1,10 @@
 -- The answers under the next number, by what fits within the limit.
-use Rattle.std.proofs.Common.{◌≡◌, ℕ, ◌+◌, ◌-◌, ◌<◌, ◌≤◌, true, false, List, length, refl, ◌∙◌, ⊎_elim, arith}
-use Rattle.std.proofs.lemmas.Bool.{and_from, cond-true, cond-false, eq-eqb, lt-ltb, le-leb, lt-leb, cases_lt}
+use Rattle.std.proofs.Common.{◌≡◌, ℕ, ◌+◌, ◌-◌, ◌<◌, ◌≤◌, true, false, List, length, arith}
 use Rattle.commands.specs.declared.command.Command.TheVariants.{Take, Back}
-use Rattle.commands.specs.declared.command.Answer.{Answer}
 use Rattle.commands.specs.declared.command.Answer.TheVariants.{Taken, PutBack}
 use Rattle.commands.specs.declared.command.Line.{Line}
 use Rattle.commands.specs.Rules.{Account, taken, spent, log_room, fresh}
 use Rattle.commands.specs.Promise.{Fits, Over, next_answer}
-use Rattle.commands.proofs.Logs.{fresh_answer}
 
 -- the next number is fresh while there is room
 pub next_fresh : (lines : List Line) → length lines < log_room → fresh lines (length lines + 1) ≡ true

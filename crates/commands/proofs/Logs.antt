@@ -1,14 +1,13 @@
 -- What a line more makes of a log, and how numbers find their lines.
-use Rattle.std.proofs.Common.{◌≡◌, ℕ, ◌+◌, ◌-◌, true, false, eqb, ltb, leb, List, [], ◌∷◌, ◌++◌, length, get_or, refl, ap, ◌∙◌, arith}
+use Rattle.std.proofs.Common.{◌≡◌, ℕ, ◌+◌, true, false, List, [], ◌∷◌, ◌++◌, length, arith}
 use Rattle.std.proofs.lemmas.Grind.{common_steps}
-use Rattle.std.proofs.lemmas.List.{append_assoc, length-append, get_or_at}
+use Rattle.std.proofs.lemmas.List.{append_assoc, get_or_at}
 use Rattle.std.proofs.lemmas.List.Sums.{fold_push}
-use Rattle.std.proofs.lemmas.Bool.{and_parts, and_from, and_left, or_from, cond-true, cond-false, eqb-true, leb-true, ne_eqb, eq-eqb, le-ltb, le-leb, lt-leb}
 use Rattle.commands.specs.declared.command.Command.{Command}
 use Rattle.commands.specs.declared.command.Command.TheVariants.{Take, Back}
 use Rattle.commands.specs.declared.command.Answer.{Answer}
 use Rattle.commands.specs.declared.command.Line.{Line}
-use Rattle.commands.specs.Rules.{Account, Sent, taken, taken_by, spent, figure, log_room, no_line, line_of, with_line, same_command, decided, numbered, logged, fresh, used, repeats}
+use Rattle.commands.specs.Rules.{Account, Sent, taken, taken_by, spent, figure, line_of, with_line, same_command, decided, numbered, logged, fresh, repeats}
 
 pub taken_more : (lines : List Line) (command : Command) (answer : Answer) (o : ℕ) → taken (with_line lines command answer) o ≡ taken_by o (taken lines o) command answer
 unfolding taken
@@ -41,10 +40,7 @@ pub repeat_answer : (account : Account) (lines : List Line) (s : Sent) → repea
     → numbered account lines s.number s.command ≡ (line_of lines s.number).answer
 repeat_answer account lines s h = grind arith
 
-pub repeat_is_not_fresh : (lines : List Line) (s : Sent) → repeats lines s ≡ true → fresh lines s.number ≡ false
-repeat_is_not_fresh lines s h = grind arith
-
--- so it adds no line
+-- and adds no line
 pub repeat_log : (account : Account) (lines : List Line) (s : Sent) → repeats lines s ≡ true → logged account lines s.number s.command ≡ lines
 repeat_log account lines s h = grind arith
 
@@ -56,6 +52,6 @@ line_again lines line rest number e = grind (arith, append_assoc, get_or_at)
 -- and its command is a repeat there
 pub repeats_again : (lines : List Line) (command : Command) (answer : Answer) (rest : List Line) (number : ℕ) → number ≡ length lines + 1
     → repeats (with_line lines command answer ++ rest) (record { number = number; command = command }) ≡ true
-repeats_again lines command answer rest number e = 
+repeats_again lines command answer rest number e =
     let f = line_again lines (record { command = command; answer = answer }) rest number e in
     grind (arith, common_steps, f, same_self command)

@@ -1,10 +1,9 @@
 -- Runs of commands that are joined, and logs that grow.
-use Rattle.std.proofs.Common.{◌≡◌, Bool, true, false, ◌+◌, List, [], ◌∷◌, ◌++◌, map, length, take, sym, refl, ap, ◌∙◌}
+use Rattle.std.proofs.Common.{arith, ◌≡◌, Bool, true, false, ◌+◌, List, [], ◌∷◌, ◌++◌, map, length, take, sym, refl, ap, ◌∙◌}
 use Rattle.std.specs.List.{fold, scan}
 use Rattle.std.proofs.lemmas.List.{append-nil, append_assoc, map_push, take_at}
 use Rattle.std.proofs.lemmas.List.Folds.{fold_along}
 use Rattle.std.proofs.lemmas.List.Sums.{fold-append, fold_push}
-use Rattle.std.proofs.lemmas.Bool.{and_parts, eqb-true}
 use Rattle.commands.specs.declared.command.Line.{Line}
 use Rattle.commands.specs.Rules.{Account, Sent, with_line, decided, line_of, numbered, fresh, repeats, next, hears, lines_from, lines_after, heard_from, says, answers}
 use Rattle.commands.proofs.Logs.{next_line, no_line_more, fresh_answer, repeat_answer, line_again, repeats_again}
@@ -77,11 +76,7 @@ grown_past account before s between = run_past (next account) (next_grows accoun
 -- a log that grew from the one after a fresh command has its line, whatever follows
 fresh_line : (account : Account) (lines after : List Line) (s : Sent) → fresh lines s.number ≡ true → Grown (next account lines s) after
     → (rest : List Line) × (after ≡ with_line lines s.command (decided account lines s.command) ++ rest) × (s.number ≡ length lines + 1)
-fresh_line account lines after s h g = (
-  g.more,
-  g.is ∙ ap (λ l. l ++ g.more) (next_line account lines s.number s.command h),
-  eqb-true s.number (length lines + 1) (and_parts _ _ h).0,
-)
+fresh_line account lines after s h g = grind arith
 
 -- so it is a repeat from then on
 pub repeats_after : (account : Account) (lines after : List Line) (s : Sent) → fresh lines s.number ≡ true → Grown (next account lines s) after

@@ -1,5 +1,5 @@
 -- Elements that change nothing, struck out of a run.
-use Rattle.std.proofs.Common.{◌≡◌, Bool, true, List, [], ◌∷◌, map, sym, refl, ap, ◌∙◌, ap₂}
+use Rattle.std.proofs.Common.{arith, ◌≡◌, Bool, true, List, [], ◌∷◌, map, refl}
 use Rattle.std.specs.List.{fold, scan}
 use Rattle.commands.specs.Strikes.{Left, Left.ends, Left.keeps, Left.strikes}
 
@@ -17,18 +17,12 @@ pub left_over : {S X H : Type 0} {next : S → X → S} {hears : S → X → H} 
 left_over idle ends s [] e = (refl, refl)
 left_over idle ends s (x ∷ xs) e = cc
 left_over idle (keeps h all left t) s [] e = cc
-left_over {next = next} {hears = hears} {made = made} idle (keeps h all left t) s (x ∷ xs) e =
-    let first : h ≡ hears s x = cc in
-    let others : all ≡ scan next hears (next s x) xs = cc in
-    let ih = left_over idle t (next s x) xs others in
-    let same : made h ≡ x = ap made first ∙ idle.tells s x in (
-      ap (λ y. scan next hears s (y ∷ map made left)) same ∙ ap₂ ◌∷◌ (sym first) ih.0,
-      ap (λ y. fold next s (y ∷ map made left)) same ∙ ih.1,
-    )
+left_over {next = next} idle (keeps h all left t) s (x ∷ xs) e =
+    let told = idle.tells s x in
+    let rest = left_over idle t (next s x) xs cc in
+    grind arith
 left_over idle (strikes h all left r t) s [] e = cc
-left_over {next = next} {hears = hears} {passes = passes} idle (strikes h all left r t) s (x ∷ xs) e =
-    let first : h ≡ hears s x = cc in
-    let others : all ≡ scan next hears (next s x) xs = cc in
-    let stays = idle.stays s x (ap passes (sym first) ∙ r) in
-    let ih = left_over idle t s xs (others ∙ ap (λ z. scan next hears z xs) stays) in
-    (ih.0, ih.1 ∙ ap (λ z. fold next z xs) (sym stays))
+left_over idle (strikes h all left r t) s (x ∷ xs) e =
+    let stays = idle.stays s x cc in
+    let rest = left_over idle t s xs cc in
+    grind arith

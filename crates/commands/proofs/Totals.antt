@@ -1,6 +1,5 @@
 -- Sums that differ at one place.
-use Rattle.std.proofs.Common.{◌≡◌, ℕ, zero, suc, ◌+◌, ◌<◌, ◌≤◌, ◌≢◌, ⊎_elim, arith}
-use Rattle.std.proofs.lemmas.Bool.{cases_eq}
+use Rattle.std.proofs.Common.{◌≡◌, ℕ, zero, suc, ◌+◌, ◌<◌, ◌≤◌, ◌≢◌, arith}
 use Rattle.rows.specs.Rows.{sum_below}
 use Rattle.rows.proofs.Sums.{sum_cong}
 

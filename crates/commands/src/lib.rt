@@ -26,12 +26,18 @@ mod tests {
     #[test]
     fn answers_are_told_in_words(rt: HostRuntime) -> Result<(), Fail> {
         let heap = rt.alloc();
-        let taken = Answer::Taken { spent: 7 }.to_string(heap)?;
-        let back = Answer::PutBack { spent: 0 }.to_string(heap)?;
-        let over = Answer::Refused(Refusal::OverLimit { excess: 12 }).to_string(heap)?;
-        assert!(rt; taken.as_str() == "taken, spent 7");
-        assert!(rt; back.as_str() == "put back, spent 0");
-        assert!(rt; over.as_str() == "refused 20 12");
+        let table = [
+            (Answer::Taken { spent: 7 }, "taken, spent 7"),
+            (Answer::PutBack { spent: 0 }, "put back, spent 0"),
+            (
+                Answer::Refused(Refusal::OverLimit { excess: 12 }),
+                "refused 20 12",
+            ),
+        ];
+        for (answer, words) in table {
+            let text = answer.to_string(heap)?;
+            assert!(rt; text.as_str() == words);
+        }
         Ok(())
     }
 }

@@ -8,6 +8,7 @@ pub fn commands_keep_their_promise() -> u8
     0
 }
 
+#[tactic(auto, unfolding(crate::specs::Rules::taken, crate::specs::Rules::spent, crate::specs::Rules::lines_from, crate::specs::Rules::heard_from))]
 pub fn short_runs_hold() -> u8
     ensures { ShortRuns }
 {

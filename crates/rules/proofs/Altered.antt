@@ -1,5 +1,5 @@
 -- What a fresh command changes in what ask is replied.
-use Rattle.std.proofs.Common.{◌≡◌, ℕ, ◌+◌, ◌*◌, ◌^◌, ◌<◌, Bool, true, false, List, [], ◌∷◌, ◌++◌, length, sym, ap, ◌∙◌, arith}
+use Rattle.std.proofs.Common.{◌≡◌, ℕ, ◌+◌, ◌*◌, ◌^◌, ◌<◌, Bool, true, false, List, [], ◌∷◌, ◌++◌, length, ap, ◌∙◌, arith}
 use mathlib.Core.Path.{fun_ext}
 use Rattle.std.proofs.lemmas.List.{length_push}
 use Rattle.rows.specs.Rows.{sum_below, bit}
@@ -16,13 +16,10 @@ use Rattle.commands.proofs.Logs.{next_line, fresh_answer}
 use Rattle.commands.proofs.Changed.{decided_changes}
 use Rattle.commands.proofs.Limits.{next_fresh}
 use Rattle.rules.specs.declared.call.Call.{Call}
-use Rattle.rules.specs.Rules.{Terms, account, price, taken_set, Said.asked, lines}
-use Rattle.rules.specs.Standing.{Alters, RefusedNow, Fresh, sent, misread}
+use Rattle.rules.specs.Rules.{Terms, account, price, taken_set, lines}
+use Rattle.rules.specs.Standing.{Alters, Fresh, sent, misread}
 use Rattle.rules.proofs.Runs.{lines_one, sent_reply, sent_logs, calls_keep, said_again}
 use Rattle.rules.proofs.Handed.{digits, misread_taken}
-
-asked_same : (l : ℕ) {s s' n n' o o' : ℕ} → s ≡ s' → n ≡ n' → o ≡ o' → asked l s n o ≡ asked l s' n' o'
-asked_same l a b c = cc
 
 -- the taken set, where one output alone was taken or put back
 moved_set : (t : Terms) (before after : List Line) (o told : ℕ) (old new : Bool) → Moved (account t) before after o told old new
@@ -38,31 +35,29 @@ unmoved_set t before after u = ap (λ f. sum_below t.meaning.outputs (λ p. bit 
 misread_wrong : (t : Terms) (calls : List Call) (o : ℕ) → o < t.meaning.outputs → taken (lines t calls) o ≡ true → price t o * misread t calls o ≡ (account t).cost o
 misread_wrong t calls o inside held = ap (λ e. price t o * e) (misread_taken t calls o inside held ∙ (closest t.meaning o).exact)
 
-unmoved_ask : (t : Terms) (before after : List Call) → length (lines t after) ≡ length (lines t before) + 1 → Unmoved (lines t before) (lines t after)
-    → RefusedNow t after (spent (lines t before)) (length (lines t before)) (taken_set t (lines t before))
-unmoved_ask t before after n u = asked_same t.limit u.figure n (unmoved_set t (lines t before) (lines t after) u)
-
 altered : (t : Terms) (before after : List Call) (command : Command) (answer : Answer) → length (lines t after) ≡ length (lines t before) + 1
     → Changes (account t) (lines t before) (lines t after) command answer
     → Alters t before after (spent (lines t before)) (length (lines t before)) (taken_set t (lines t before)) command answer
 altered t before after (Take o) (Taken s) n c =
     let m = moved_set t (lines t before) (lines t after) o s false true c.0 in
+    let f = c.0.figure in
     record {
       was = digits t (lines t before) (calls_keep t before) o ∙ c.0.was;
-      costs = c.1 ∙ ap (λ e. spent (lines t before) + e) (sym (misread_wrong t after o c.0.output c.0.is));
-      asks = asked_same t.limit c.0.figure n (omega arith);
+      costs = grind (arith, c.1, misread_wrong t after o c.0.output c.0.is);
+      asks = grind arith;
     }
 altered t before after (Take o) (PutBack s) n c = c
-altered t before after (Take o) (Refused r) n c = unmoved_ask t before after n c
+altered t before after (Take o) (Refused r) n c = grind (arith, c.figure, unmoved_set t (lines t before) (lines t after) c)
 altered t before after (Back o) (Taken s) n c = c
 altered t before after (Back o) (PutBack s) n c =
     let m = moved_set t (lines t before) (lines t after) o s true false c.0 in
+    let f = c.0.figure in
     record {
       was = digits t (lines t before) (calls_keep t before) o ∙ c.0.was;
-      costs = c.1 ∙ ap (λ e. s + e) (sym (misread_wrong t before o c.0.output c.0.was));
-      asks = asked_same t.limit c.0.figure n (omega arith);
+      costs = grind (arith, c.1, misread_wrong t before o c.0.output c.0.was);
+      asks = grind arith;
     }
-altered t before after (Back o) (Refused r) n c = unmoved_ask t before after n c
+altered t before after (Back o) (Refused r) n c = grind (arith, c.figure, unmoved_set t (lines t before) (lines t after) c)
 
 pub fresh_command : (t : Terms) (before : List Call) (command : Command) → length (lines t before) < log_room
     → Fresh t before (spent (lines t before)) (length (lines t before)) (taken_set t (lines t before)) command

@@ -1,7 +1,7 @@
 -- What is handed out: the rows read wrongly, and the taken set as a number.
-use Rattle.std.proofs.Common.{◌≡◌, ℕ, ◌*◌, ◌^◌, ◌<◌, Bool, true, false, cond, List, sym, refl, ap, ◌∙◌, ⊎_elim, mul-zero, arith}
+use Rattle.std.proofs.Common.{◌≡◌, ℕ, ◌*◌, ◌^◌, ◌<◌, Bool, true, false, cond, List, refl, ◌∙◌, ⊎_elim, arith}
 use lib.Count.{ones}
-use Rattle.std.proofs.lemmas.Bool.{cases_lt, cases_Bool, cond-true, cond-false, lt-ltb}
+use Rattle.std.proofs.lemmas.Bool.{cases_lt, cases_Bool}
 use Rattle.rows.specs.Rows.{sum_below}
 use Rattle.rows.proofs.Sums.{sum_cong}
 use Rattle.rows.proofs.Counts.{count_cong, count_none}
@@ -18,8 +18,8 @@ use Rattle.commands.specs.Rules.{taken, spent}
 use Rattle.commands.specs.Promise.{Kept}
 use Rattle.rules.specs.declared.call.Call.{Call}
 use Rattle.rules.specs.declared.call.Call.TheVariants as call
-use Rattle.rules.specs.Rules.{Terms, account, price, taken_set, handed, Said.marks, reply, lines}
-use Rattle.rules.specs.Standing.{in_set, wrong_mark, wrong_reply, misread}
+use Rattle.rules.specs.Rules.{Terms, account, price, taken_set, Said.marks, reply, lines}
+use Rattle.rules.specs.Standing.{in_set, wrong_mark, misread}
 use Rattle.rules.proofs.Runs.{calls_keep}
 
 -- a set's digits tell what is taken
@@ -27,20 +27,18 @@ pub digits : (t : Terms) (log : List Line) → Kept (account t) log → (o : ℕ
 digits t log k o =
     ⊎_elim
     (λ h. number_value (taken log) t.meaning.outputs o h)
-    (λ h. number_above (taken log) t.meaning.outputs o h ∙ sym (⊎_elim (λ e. absurd (let l = k.there o e in omega arith)) (λ e. e) (cases_Bool (taken log o))))
+    (λ h. grind (arith, number_above (taken log) t.meaning.outputs o h, k.there o))
     (cases_lt o t.meaning.outputs)
 
--- a read within the design hands out a mark
-pub reads_handed : (t : Terms) (log : List Line) (o r : ℕ) → o < t.meaning.outputs → r < 2 ^ t.meaning.inputs → reply t log (call.Read o r) ≡ marks (handed t log o r)
-reads_handed t log o r inside row = cond-true _ _ _ (lt-ltb _ _ inside) ∙ cond-true _ _ _ (lt-ltb _ _ row)
-
+-- a read within the design hands out a mark: of the symmetric function if the output is taken
 pub reads_symmetric : (t : Terms) (log : List Line) (o r : ℕ) → o < t.meaning.outputs → r < 2 ^ t.meaning.inputs → taken log o ≡ true
     → reply t log (call.Read o r) ≡ marks (marked (value (bits t.meaning o) (ones r)))
-reads_symmetric t log o r inside row held = reads_handed t log o r inside row ∙ ap marks (cond-true _ _ _ held)
+reads_symmetric t log o r inside row held = grind arith
 
+-- else the design's
 pub reads_design : (t : Terms) (log : List Line) (o r : ℕ) → o < t.meaning.outputs → r < 2 ^ t.meaning.inputs → taken log o ≡ false
     → reply t log (call.Read o r) ≡ marks (t.meaning.mark o r)
-reads_design t log o r inside row free = reads_handed t log o r inside row ∙ ap marks (cond-false _ _ _ free)
+reads_design t log o r inside row free = grind arith
 
 -- the mark of a value is wrong where the value is
 wrong_value : (wanted : Mark) (b : Bool) → wrong_mark wanted (marked b) ≡ differ wanted b
@@ -62,23 +60,21 @@ pub misread_taken : (t : Terms) (before : List Call) (o : ℕ) → o < t.meaning
 misread_taken t before o inside held =
     count_cong t.meaning.inputs _ _
     (λ r row.
-    ap (wrong_reply (t.meaning.mark o r)) (reads_symmetric t (lines t before) o r inside row held)
-    ∙ wrong_value (t.meaning.mark o r) (value (bits t.meaning o) (ones r)))
+    let e = reads_symmetric t (lines t before) o r inside row held in
+    grind (arith, wrong_value (t.meaning.mark o r) (value (bits t.meaning o) (ones r))))
 
 pub misread_free : (t : Terms) (before : List Call) (o : ℕ) → o < t.meaning.outputs → taken (lines t before) o ≡ false → misread t before o ≡ 0
 misread_free t before o inside free =
     count_none t.meaning.inputs _
-    (λ r row.
-    ap (wrong_reply (t.meaning.mark o r)) (reads_design t (lines t before) o r inside row free)
-    ∙ wrong_self (t.meaning.mark o r))
+    (λ r row. let e = reads_design t (lines t before) o r inside row free in grind (arith, wrong_self (t.meaning.mark o r)))
 
 -- so an output costs its price for each row read wrongly
 pub misread_cost : (t : Terms) (before : List Call) (o : ℕ) → o < t.meaning.outputs
     → cond (taken (lines t before) o) ((account t).cost o) 0 ≡ price t o * misread t before o
 misread_cost t before o inside =
     ⊎_elim
-    (λ held. cond-true _ _ _ held ∙ ap (λ e. price t o * e) (sym (closest t.meaning o).exact ∙ sym (misread_taken t before o inside held)))
-    (λ free. cond-false _ _ _ free ∙ sym (ap (λ e. price t o * e) (misread_free t before o inside free) ∙ mul-zero (price t o)))
+    (λ held. grind (arith, (closest t.meaning o).exact, misread_taken t before o inside held))
+    (λ free. grind (arith, misread_free t before o inside free))
     (cases_Bool (taken (lines t before) o))
 
 pub spent_true : (t : Terms) (before : List Call) → spent (lines t before) ≡ sum_below t.meaning.outputs (λ o. price t o * misread t before o)

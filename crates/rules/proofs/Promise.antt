@@ -1,6 +1,5 @@
 -- The promise, from its parts.
 use Rattle.std.proofs.Common.{◌≡◌, ℕ, ◌*◌, ◌^◌, ◌<◌, ◌≤◌, true, false, List, [], ◌∷◌, ◌++◌, length, sym, refl, ap, ◌∙◌, zero-mul, arith}
-use Rattle.std.proofs.lemmas.Bool.{cond-true, cond-false, lt-ltb, le-ltb}
 use Rattle.refusal.specs.declared.table.Refusal.TheVariants.{NumberUsed}
 use Rattle.rows.proofs.Sums.{sum_none}
 use Rattle.symmetric.specs.Nearest.{bits, wrong}
