@@ -1,6 +1,7 @@
 -- Runs of commands that are joined, and logs that grow.
 use Rattle.std.proofs.Common.{arith, ◌≡◌, Bool, true, false, ◌+◌, List, [], ◌∷◌, ◌++◌, map, length, take, sym, refl, ap, ◌∙◌}
 use Rattle.std.specs.List.{fold, scan}
+use Rattle.std.proofs.lemmas.Bool.{cond_both}
 use Rattle.std.proofs.lemmas.List.{append-nil, append_assoc, map_push, take_at}
 use Rattle.std.proofs.lemmas.List.Folds.{fold_along}
 use Rattle.std.proofs.lemmas.List.Sums.{fold-append, fold_push}
@@ -39,11 +40,7 @@ grown_twice {before = before} f g = record { more = f.more ++ g.more; is = g.is 
 
 -- a log grows at a command
 pub next_grows : (account : Account) (lines : List Line) (s : Sent) → Grown lines (next account lines s)
-next_grows account lines s = go (fresh lines s.number) refl
-  where
-    go : (b : Bool) → fresh lines s.number ≡ b → Grown lines (next account lines s)
-    go true h = record { more = _; is = next_line account lines s.number s.command h }
-    go false h = record { more = []; is = no_line_more account lines s.number s.command h ∙ sym (append-nil lines) }
+next_grows account lines s = cond_both (fresh lines s.number) _ _ (Grown lines) (λ new. record { more = _; is = refl }) (λ old. not_grown lines)
 
 -- it grows over a run if it does at each step
 pub run_grows : {X : Type 0} (step : List Line → X → List Line) → ((lines : List Line) (x : X) → Grown lines (step lines x))

@@ -1,6 +1,5 @@
 -- What a fresh command changes in what ask is replied.
 use Rattle.std.proofs.Common.{◌≡◌, ℕ, ◌+◌, ◌*◌, ◌^◌, ◌<◌, Bool, true, false, List, [], ◌∷◌, ◌++◌, length, ap, ◌∙◌, arith}
-use mathlib.Core.Path.{fun_ext}
 use Rattle.std.proofs.lemmas.List.{length_push}
 use Rattle.rows.specs.Rows.{sum_below, bit}
 use Rattle.symmetric.proofs.Closest.{closest}
@@ -11,9 +10,8 @@ use Rattle.commands.specs.declared.command.Answer.TheVariants.{Taken, PutBack, R
 use Rattle.commands.specs.declared.command.Line.{Line}
 use Rattle.commands.specs.Rules.{taken, spent, log_room, numbered}
 use Rattle.commands.specs.Promise.{Moved, Unmoved, Changes}
-use Rattle.commands.proofs.Totals.{total_but}
 use Rattle.commands.proofs.Logs.{next_line, fresh_answer}
-use Rattle.commands.proofs.Changed.{decided_changes}
+use Rattle.commands.proofs.Changed.{decided_changes, moved_sum, unmoved_sum}
 use Rattle.commands.proofs.Limits.{next_fresh}
 use Rattle.rules.specs.declared.call.Call.{Call}
 use Rattle.rules.specs.Rules.{Terms, account, price, taken_set, lines}
@@ -24,13 +22,10 @@ use Rattle.rules.proofs.Handed.{digits, misread_taken}
 -- the taken set, where one output alone was taken or put back
 moved_set : (t : Terms) (before after : List Line) (o told : ℕ) (old new : Bool) → Moved (account t) before after o told old new
     → taken_set t after + bit old * 2 ^ o ≡ taken_set t before + bit new * 2 ^ o
-moved_set t before after o told old new m =
-    let e = total_but t.meaning.outputs (λ p. bit (taken after p) * 2 ^ p) (λ p. bit (taken before p) * 2 ^ p) o m.output
-    (λ p ne. ap (λ b. bit b * 2 ^ p) (m.others p ne)) in
-    rw (← m.was, ← m.is) e
+moved_set t before after o told old new m = moved_sum (account t) before after o told old new (λ b p. bit b * 2 ^ p) m
 
 unmoved_set : (t : Terms) (before after : List Line) → Unmoved before after → taken_set t after ≡ taken_set t before
-unmoved_set t before after u = ap (λ f. sum_below t.meaning.outputs (λ p. bit (f p) * 2 ^ p)) (fun_ext u.outputs)
+unmoved_set t before after u = unmoved_sum (account t) before after (λ b p. bit b * 2 ^ p) u
 
 misread_wrong : (t : Terms) (calls : List Call) (o : ℕ) → o < t.meaning.outputs → taken (lines t calls) o ≡ true → price t o * misread t calls o ≡ (account t).cost o
 misread_wrong t calls o inside held = ap (λ e. price t o * e) (misread_taken t calls o inside held ∙ (closest t.meaning o).exact)

@@ -1,5 +1,5 @@
 -- The promise, from its parts.
-use Rattle.std.proofs.Common.{◌≡◌, ℕ, ◌*◌, ◌^◌, ◌<◌, ◌≤◌, true, false, List, [], ◌∷◌, ◌++◌, length, sym, refl, ap, ◌∙◌, zero-mul, arith}
+use Rattle.std.proofs.Common.{◌≡◌, ℕ, Bool, ◌*◌, ◌^◌, ◌<◌, ◌≤◌, true, false, List, [], ◌∷◌, ◌++◌, length, sym, refl, ap, ◌∙◌, zero-mul, arith}
 use Rattle.refusal.specs.declared.table.Refusal.TheVariants.{NumberUsed}
 use Rattle.rows.proofs.Sums.{sum_none}
 use Rattle.symmetric.specs.Nearest.{bits, wrong}
@@ -15,7 +15,7 @@ use Rattle.commands.proofs.Limits.{put_back}
 use Rattle.rules.specs.declared.call.Call.{Call}
 use Rattle.rules.specs.declared.call.Call.TheVariants as call
 use Rattle.rules.specs.Rules.{Terms, account, taken_set, drawing, Said.answered, Said.asked, reply, logs, lines_from, lines, replies_from, replies, says}
-use Rattle.rules.specs.Standing.{Nearest, Replaced, Untouched, Absent, Stands, sent}
+use Rattle.rules.specs.Standing.{in_set, Nearest, Replaced, Untouched, Absent, Stands, sent}
 use Rattle.rules.specs.Promise.{Promised, hears, heard_from, is_repeat}
 use Rattle.rules.proofs.Runs.{replies_one, sent_reply, repeat_adds_none, others_add_none, lines_without, calls_keep}
 use Rattle.rules.proofs.Handed.{digits, reads_symmetric, reads_design, misread_taken, misread_free, spent_true}
@@ -61,11 +61,14 @@ absent t before o out = record {
   backs = λ few. grind arith;
 }
 
+-- what the set of ask tells is so
+told : (t : Terms) (before : List Call) (o : ℕ) {b : Bool} → in_set (taken_set t (lines t before)) o ≡ b → taken (lines t before) o ≡ b
+told t before o h = sym (digits t (lines t before) (calls_keep t before) o) ∙ h
+
 pub stands : (t : Terms) (before : List Call) → Stands t before
 unfolding shown_nearest
 stands t before =
     let k = calls_keep t before in
-    let d = digits t (lines t before) k in
     record {
       spent = spent (lines t before);
       numbers = length (lines t before);
@@ -74,20 +77,20 @@ stands t before =
       sum = spent_true t before;
       within = k.within;
       room = k.room;
-      there = λ o h. k.there o (sym (d o) ∙ h);
+      there = λ o h. k.there o (told t before o h);
       nearest = shown_nearest t before;
-      symmetric = λ o inside h. replaced t before o inside (sym (d o) ∙ h);
-      design = λ o inside h. untouched t before o inside (sym (d o) ∙ h);
+      symmetric = λ o inside h. replaced t before o inside (told t before o h);
+      design = λ o inside h. untouched t before o inside (told t before o h);
       absent = absent t before;
       no_row = λ o r inside out. grind arith;
-      none_to_return = λ o inside h few. let free = sym (d o) ∙ h in grind arith;
+      none_to_return = λ o inside h few. let free = told t before o h in grind arith;
       taken_twice = λ o h few.
-          let held = sym (d o) ∙ h in
+          let held = told t before o h in
           let inside = k.there o held in
           grind arith;
-      limited = λ o inside h few. limited_take t before o few inside (sym (d o) ∙ h);
+      limited = λ o inside h few. limited_take t before o few inside (told t before o h);
       returned = λ o h few.
-          let held = sym (d o) ∙ h in
+          let held = told t before o h in
           (_, ap answered (put_back (account t) (lines t before) o few (k.there o held) held));
       fresh = fresh_command t before;
       full = λ c e. grind (arith, sent_reply t (lines t before));

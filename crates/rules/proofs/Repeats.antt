@@ -1,7 +1,7 @@
 -- A call is a repeat exactly if it was fresh before.
 use Rattle.std.proofs.Common.{◌≡◌, ℕ, ◌+◌, ◌-◌, true, ◌⊎◌, List, [], ◌∷◌, ◌++◌, length, sym, refl, ap, ◌∙◌, ap₂, inl, inr, ⊎_elim, arith}
 use Rattle.std.proofs.lemmas.List.{length_push, get_or_append_left, get_or_at}
-use Rattle.std.proofs.lemmas.Bool.{cases_Bool, cases_lt, false≢true}
+use Rattle.std.proofs.lemmas.Bool.{cond_both, cases_lt, false≢true}
 use Rattle.commands.specs.declared.command.Command.{Command}
 use Rattle.commands.specs.declared.command.Command.TheVariants.{Take, Back}
 use Rattle.commands.specs.declared.command.Answer.{Answer}
@@ -42,12 +42,10 @@ Step t log d k c = (repeats log (under k c) ≡ true) ⊎ ((d ≡ sent k c) × (
 command_step : (t : Terms) (log : List Line) (j : ℕ) (x : Command) (k : ℕ) (c : Command) → repeats (logged (account t) log j x) (under k c) ≡ true
     → Step t log (sent j x) k c
 command_step t log j x k c h =
-    ⊎_elim
-    (λ new.
-    let old = new_repeat log x (decided (account t) log x) k c (grind arith) in
-    ⊎_elim inl (λ f. let e : j ≡ k = grind arith in inr (ap₂ sent e f.1, grind arith)) old)
-    (λ old. inl (grind arith))
-    (cases_Bool (fresh log j))
+    cond_both (fresh log j) _ _ (λ l. repeats l (under k c) ≡ true → Step t log (sent j x) k c)
+    (λ new r. ⊎_elim inl (λ f. let e : j ≡ k = grind arith in inr (ap₂ sent e f.1, grind arith)) (new_repeat log x (decided (account t) log x) k c r))
+    (λ old r. inl r)
+    h
 
 call_step : (t : Terms) (log : List Line) (d : Call) (k : ℕ) (c : Command) → repeats (logs t log d) (under k c) ≡ true → Step t log d k c
 call_step t log (call.Take j o) k c h = command_step t log j (Take o) k c h
