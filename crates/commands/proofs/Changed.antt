@@ -1,9 +1,9 @@
 -- What a fresh command changes, and that the account is kept by it.
-use Rattle.std.proofs.Common.{◌≡◌, ℕ, ◌+◌, ◌-◌, ◌<◌, ◌≤◌, Bool, true, false, cond, eqb, ltb, leb, List, length, sym, refl, ap, ◌∙◌, arith}
+use Rattle.std.proofs.Common.{◌≡◌, ℕ, ◌+◌, ◌<◌, ◌≤◌, Bool, true, false, cond, eqb, ltb, leb, List, length, sym, refl, ap, ◌∙◌, arith}
 use Rattle.std.proofs.lemmas.List.{length_push}
-use Rattle.std.proofs.lemmas.Bool.{cond_both, and_parts, cond-true, cond-false, eq-eqb, ne_eqb, leb-true, ltb-true}
+use Rattle.std.proofs.lemmas.Bool.{cond_both, leb-true, ltb-true}
 use Rattle.refusal.specs.declared.table.Refusal.{Refusal}
-use Rattle.refusal.specs.declared.table.Refusal.TheVariants.{NoOutput, AlreadyTaken, NotTaken, OverLimit}
+use Rattle.refusal.specs.declared.table.Refusal.TheVariants.{NoOutput, AlreadyTaken, NotTaken}
 use Rattle.rows.specs.Rows.{sum_below}
 use Rattle.rows.proofs.Sums.{sum_same}
 use Rattle.commands.specs.declared.command.Command.{Command}
@@ -14,7 +14,7 @@ use Rattle.commands.specs.declared.command.Line.{Line}
 use Rattle.commands.specs.Rules.{Account, taken, taken_by, spent, figure, log_room, with_line, decided, logged, fresh}
 use Rattle.commands.specs.Promise.{costs, Kept, Moved, Unmoved, Changes}
 use Rattle.commands.proofs.Totals.{total_but, term_le}
-use Rattle.commands.proofs.Logs.{taken_more, spent_more, next_line, no_line_more}
+use Rattle.commands.proofs.Logs.{taken_more, spent_more}
 
 -- a line that takes or puts back one output
 moving : (account : Account) (lines : List Line) (command : Command) (answer : Answer) (o s : ℕ) (old new : Bool)

@@ -1,5 +1,5 @@
 -- Runs of commands that are joined, and logs that grow.
-use Rattle.std.proofs.Common.{arith, ◌≡◌, Bool, true, false, ◌+◌, List, [], ◌∷◌, ◌++◌, map, length, take, sym, refl, ap, ◌∙◌}
+use Rattle.std.proofs.Common.{arith, ◌≡◌, true, ◌+◌, List, [], ◌∷◌, ◌++◌, map, length, take, sym, refl, ap, ◌∙◌}
 use Rattle.std.specs.List.{fold, scan}
 use Rattle.std.proofs.lemmas.Bool.{cond_both}
 use Rattle.std.proofs.lemmas.List.{append-nil, append_assoc, map_push, take_at}
@@ -7,7 +7,7 @@ use Rattle.std.proofs.lemmas.List.Folds.{fold_along}
 use Rattle.std.proofs.lemmas.List.Sums.{fold-append, fold_push}
 use Rattle.commands.specs.declared.command.Line.{Line}
 use Rattle.commands.specs.Rules.{Account, Sent, with_line, decided, line_of, numbered, fresh, repeats, next, hears, lines_from, lines_after, heard_from, says, answers}
-use Rattle.commands.proofs.Logs.{next_line, no_line_more, fresh_answer, repeat_answer, line_again, repeats_again}
+use Rattle.commands.proofs.Logs.{fresh_answer, repeat_answer, line_again, repeats_again}
 
 -- what is heard of a run with one step more
 pub scan_push : {S X Y : Type 0} (step : S → X → S) (out : S → X → Y) (a : S) (xs : List X) (x : X)
