@@ -1,7 +1,7 @@
 -- What a fresh command changes in what ask is replied.
 use Rattle.std.proofs.Common.{◌≡◌, ℕ, ◌+◌, ◌*◌, ◌^◌, ◌<◌, Bool, true, false, List, [], ◌∷◌, ◌++◌, length, ap, ◌∙◌, arith}
 use Rattle.std.proofs.lemmas.List.{length_push}
-use Rattle.rows.specs.Rows.{sum_below, bit}
+use Rattle.rows.specs.Rows.{bit}
 use Rattle.symmetric.proofs.Closest.{closest}
 use Rattle.commands.specs.declared.command.Command.{Command}
 use Rattle.commands.specs.declared.command.Command.TheVariants.{Take, Back}
