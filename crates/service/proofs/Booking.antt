@@ -15,7 +15,7 @@ use Rattle.rules.specs.Rules.{Terms, account}
 use Rattle.service.specs.declared.account.Account.{Account}
 use Rattle.service.specs.declared.ledger.Ledger.{Ledger}
 use Rattle.service.specs.Books.{no_account, account_of, marked_taken, with_taken, cost, take_answer, back_answer, accounts_after, spent_after}
-use Rattle.service.specs.Holds.{Accounted, Booked, Decides}
+use Rattle.service.specs.Booked.{Accounted, Booked, Decides}
 
 -- an account stays as it is where its output is as it was
 kept_account : (t : Terms) (lines more : List Line) (o : ℕ) (a : Account) → Accounted t lines o a → taken more o ≡ taken lines o → Accounted t more o a

@@ -8,7 +8,7 @@ use Rattle.rules.specs.Rules.{Terms, taken_set}
 use Rattle.service.specs.declared.account.Account.{Account}
 use Rattle.service.specs.declared.ledger.Ledger.{Ledger}
 use Rattle.service.specs.Books.{no_account, flags}
-use Rattle.service.specs.Holds.{Booked}
+use Rattle.service.specs.Booked.{Booked}
 
 pub flags_none : (accounts : List Account) → flags accounts 0 ≡ 0
 unfolding flags sum_below

@@ -1,32 +1,38 @@
 -- A run of calls, one by one.
-use Rattle.std.proofs.Common.{◌≡◌, ℕ, ◌+◌, ◌<◌, ◌≤◌, List, [], ◌∷◌, ◌++◌, map, length, get_or, take, sym, ap, ◌∙◌, subst}
+use Rattle.std.proofs.Common.{◌≡◌, ℕ, ◌+◌, ◌<◌, ◌≤◌, List, [], ◌∷◌, ◌++◌, map, length, get_or, take, sym, ap, ◌∙◌}
 use Rattle.std.proofs.lemmas.List.{take_more, take_all, map_push}
-use Rattle.design.specs.Meaning.{Meaning}
 use Rattle.commands.specs.declared.command.Line.{Line}
 use Rattle.rules.specs.declared.call.Call.{Call}
 use Rattle.rules.specs.declared.call.Reply.{Reply}
-use Rattle.rules.specs.Rules.{Terms, lines_from, lines, replies_from, replies}
+use Rattle.rules.specs.Rules.{Terms, logs, reply, lines_from, lines, replies_from, replies}
 use Rattle.rules.proofs.Runs.{lines_one, replies_one}
-use Rattle.service.specs.declared.service.Service.{Service}
-use Rattle.service.specs.Holds.{Holds}
-use Rattle.service.specs.Runs.{told, Stepped}
+use Rattle.service.specs.Runs.{told}
 
--- a service after so many of the calls, and the replies to them
-abbrev pub Gone : {D : Type 0} → (D → Meaning) → Terms → List Call → ℕ → Service D → List Reply → Type 0
-Gone means t calls i service items = Holds means t (lines t (take i calls)) service × (map told items ≡ replies t (take i calls))
+-- a service's terms, lines and replies after so many of the calls
+pub record Gone (t : Terms) (calls : List Call) (i : ℕ) (kept : Terms) (log : List Line) (items : List Reply) : Type 0 where
+  pub terms : kept ≡ t
+  pub lines : log ≡ lines t (take i calls)
+  pub replies : map told items ≡ replies t (take i calls)
 
-pub gone_none : {D : Type 0} (means : D → Meaning) (t : Terms) (calls : List Call) (service : Service D) (items : List Reply) → items ≡ [] → Holds means t [] service → Gone means t calls 0 service items
+pub gone_none : (t : Terms) (calls : List Call) (kept : Terms) (log : List Line) (items : List Reply) → kept ≡ t → log ≡ [] → items ≡ [] → Gone t calls 0 kept log items
 unfolding lines_from replies_from
-gone_none means t calls service items e h = (h, ap (map told) e)
+gone_none t calls kept log items k l e = record { terms = k; lines = l; replies = ap (map told) e }
 
-pub gone_more : {D : Type 0} (means : D → Meaning) (t : Terms) (calls : List Call) (i : ℕ) (d : Call) (before after : Service D) (items later : List Reply) (r : Reply) → i < length calls → Gone means t calls i before items → Stepped means (get_or calls i d) before (told r) after → later ≡ items ++ r ∷ [] → Gone means t calls (i + 1) after later
-gone_more means t calls i d before after items later r h inv step e =
+pub gone_more : (t : Terms) (calls : List Call) (i : ℕ) (d : Call) (kept kept' : Terms) (log log' : List Line) (items items' : List Reply) (r : Reply)
+    → i < length calls → Gone t calls i kept log items
+    → told r ≡ reply kept log (get_or calls i d) → log' ≡ logs kept log (get_or calls i d) → kept' ≡ kept → items' ≡ items ++ r ∷ []
+    → Gone t calls (i + 1) kept' log' items'
+gone_more t calls i d kept kept' log log' items items' r h inv said logged same pushed =
     let c = get_or calls i d in
-    let s = step t (lines t (take i calls)) inv.0 in
-    let tm = take_more calls i d h in (
-      subst (λ (ls : List Line). Holds means t ls after) (sym (ap (lines t) tm ∙ lines_one t (take i calls) c)) s.1,
-      ap (map told) e ∙ (map_push told items r ∙ (ap (λ xs. xs ++ told r ∷ []) inv.1 ∙ (ap (λ x. replies t (take i calls) ++ x ∷ []) s.0 ∙ sym (ap (replies t) tm ∙ replies_one t (take i calls) c)))),
-    )
+    let tm = take_more calls i d h in
+    let lines-here = lines_one t (take i calls) c in
+    let replies-here = replies_one t (take i calls) c in
+    let e = inv.terms in
+    let l = inv.lines in record {
+      terms = same ∙ inv.terms;
+      lines = rw tm (logged ∙ rw (e, l) (sym lines-here));
+      replies = ap (map told) pushed ∙ (map_push told items r ∙ rw (tm, said, e, l, inv.replies) (sym replies-here));
+    }
 
-pub gone_all : (t : Terms) (calls : List Call) (i : ℕ) (items : List Reply) → length calls ≤ i → map told items ≡ replies t (take i calls) → map told items ≡ replies t calls
-gone_all t calls i items h e = e ∙ ap (replies t) (take_all i calls h)
+pub gone_all : (t : Terms) (calls : List Call) (i : ℕ) (kept : Terms) (log : List Line) (items : List Reply) → length calls ≤ i → Gone t calls i kept log items → map told items ≡ replies t calls
+gone_all t calls i kept log items h inv = inv.replies ∙ ap (replies t) (take_all i calls h)

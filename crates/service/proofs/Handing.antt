@@ -20,7 +20,7 @@ use Rattle.rules.specs.Rules.{Terms, marks, draws, reply, drawing, in_room}
 use Rattle.service.specs.declared.account.Account.{Account}
 use Rattle.service.specs.declared.ledger.Ledger.{Ledger}
 use Rattle.service.specs.Books.{no_account, account_of, account_at}
-use Rattle.service.specs.Holds.{Accounted, Booked}
+use Rattle.service.specs.Booked.{Accounted, Booked}
 use Rattle.service.specs.Replies.{said_drawn, lent_after}
 
 not_refused : {X : Type 0} (x : X) (why : Refusal) → ◌≡◌ {A = Result X Refusal} (Ok x) (Err why) → ⊥

@@ -1,4 +1,5 @@
 -- What the ledger and the log do to a service that stands as the rules have it.
+pub mod Own
 pub mod Booking
 pub mod Obeying
 pub mod Flags

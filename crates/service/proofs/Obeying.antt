@@ -1,5 +1,5 @@
 -- What the log settles is what the rules answer, and what it leaves open is fresh.
-use Rattle.std.proofs.Common.{◌≡◌, ℕ, ◌+◌, Bool, true, false, cond, ◌||◌, eqb, ltb, leb, List, length, Some, None, refl, ◌∙◌, arith}
+use Rattle.std.proofs.Common.{◌≡◌, ℕ, ◌+◌, Bool, true, false, cond, ◌||◌, eqb, ltb, leb, List, length, Some, None, sym, refl, ap, ◌∙◌, subst, arith}
 use Rattle.std.proofs.lemmas.Bool.{and_parts, and_from, or_from, cond-true, cond-false, eq-eqb, eqb-true, ne_eqb, le-ltb, lt-leb}
 use Rattle.std.proofs.lemmas.Bool.Decides.{nat_tests}
 use Rattle.commands.specs.declared.command.Command.{Command}
@@ -7,7 +7,10 @@ use Rattle.commands.specs.declared.command.Answer.{Answer}
 use Rattle.commands.specs.declared.command.Answer.TheVariants.{Refused}
 use Rattle.refusal.specs.declared.table.Refusal.TheVariants.{Gap, NumberUsed, LogFull}
 use Rattle.commands.specs.declared.command.Line.{Line}
-use Rattle.commands.specs.Rules.{Account, numbered, fresh, decided, same_command, line_of, log_room}
+use Rattle.commands.specs.Rules.{Account, numbered, fresh, decided, same_command, line_of, log_room, with_line, logged}
+use Rattle.commands.specs.Promise.{Kept}
+use Rattle.commands.proofs.Logs.{next_line}
+use Rattle.commands.proofs.Changed.{logged_keeps}
 use Rattle.service.specs.Numbers.{settled}
 
 -- a fresh number is left open
@@ -60,3 +63,13 @@ settled_stale lines number command a h = go (fresh lines number) refl
     go : (b : Bool) → fresh lines number ≡ b → fresh lines number ≡ false
     go true e = absurd (not_open a (h ∙ open_fresh lines number command e))
     go false e = e
+
+-- a command that is left open becomes a line
+pub open_logged : (account : Account) (lines : List Line) (number : ℕ) (command : Command) (a : Answer) → settled lines number command ≡ None → a ≡ decided account lines command
+    → logged account lines number command ≡ with_line lines command a
+open_logged account lines number command a h e = next_line account lines number command (fresh_open lines number command h) ∙ ap (with_line lines command) (sym e)
+
+-- and the log is kept
+pub open_keeps : (account : Account) (lines : List Line) (number : ℕ) (command : Command) (a : Answer) → settled lines number command ≡ None → a ≡ decided account lines command
+    → Kept account lines → Kept account (with_line lines command a)
+open_keeps account lines number command a h e k = subst (λ (ls : List Line). Kept account ls) (open_logged account lines number command a h e) (logged_keeps account lines number command k)

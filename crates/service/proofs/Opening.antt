@@ -1,5 +1,5 @@
 -- What is opened: an account for each output, and costs that are sayable.
-use Rattle.std.proofs.Common.{◌≡◌, ℕ, zero, suc, ◌+◌, ◌-◌, ◌*◌, ◌^◌, ◌<◌, ◌≤◌, false, ltb, List, [], ◌∷◌, ◌++◌, length, get_or, Ok, Err, Result, refl, ap, ◌∙◌, ⊎_elim, mul-le-mul, arith, pow_mono}
+use Rattle.std.proofs.Common.{◌≡◌, ℕ, zero, suc, ◌+◌, ◌-◌, ◌*◌, ◌^◌, ◌<◌, ◌≤◌, false, ltb, List, [], ◌∷◌, ◌++◌, length, get_or, Ok, Err, vec_items, Result, sym, refl, ap, ◌∙◌, ⊎_elim, mul-le-mul, arith, pow_mono}
 use Rattle.std.proofs.lemmas.List.{get_or_at, get_or_append_left}
 use Rattle.std.proofs.lemmas.Bool.{cases_lt, cond-true, cond-false, lt-ltb, le-ltb}
 use Rattle.refusal.specs.declared.table.Refusal.{Refusal}
@@ -13,8 +13,9 @@ use Rattle.symmetric.proofs.Closest.{closest}
 use Rattle.commands.specs.Rules.{taken, spent}
 use Rattle.rules.specs.Rules.{Terms, account}
 use Rattle.service.specs.declared.account.Account.{Account}
-use Rattle.service.specs.Holds.{Accounted}
-use Rattle.service.specs.Opening.{priced, costs_below, opened}
+use Rattle.service.specs.declared.ledger.Ledger.{Ledger}
+use Rattle.service.specs.Booked.{Accounted, Booked}
+use Rattle.service.specs.Opening.{priced, costs_below, opened, AllAccounts}
 use Rattle.service.proofs.Prices.{priced_small}
 
 -- no cost is above 255 × 32,768
@@ -78,6 +79,17 @@ more_accounts t accounts a outside k n each last o inside =
     (λ more. let same : o ≡ k = omega arith in rw (same, get_or_at accounts a [] outside k n) last)
     (cases_lt o k)
 
-pub no_spending : spent [] ≡ 0
+no_spending : spent [] ≡ 0
 unfolding spent
 no_spending = refl
+
+-- the ledger that is opened with says what the rules say at no lines
+pub first_books : (t : Terms) (ledger : Ledger) → Sound t.meaning → priced t.meaning.outputs t.prices ≡ Ok tt → AllAccounts t.meaning t.prices (vec_items ledger.accounts)
+    → ledger.limit ≡ t.limit → ledger.spent ≡ 0 → Booked t [] ledger
+first_books t ledger sound fine all limit none = record {
+  outputs = all.outputs;
+  accounts = λ outside o inside. all.each t.limit outside o inside;
+  limited = limit;
+  spends = none ∙ sym no_spending;
+  cheap = λ o inside. let s = cost_small t o sound fine in omega arith;
+}

@@ -24,7 +24,8 @@ use Rattle.service.specs.declared.account.Account.{Account}
 use Rattle.service.specs.declared.ledger.Ledger.{Ledger}
 use Rattle.service.specs.Books.{no_account}
 use Rattle.service.specs.declared.service.Service.{Service}
-use Rattle.service.specs.Holds.{Accounted, Booked, Holds}
+use Rattle.service.specs.Booked.{Accounted, Booked}
+use Rattle.service.specs.Holds.{Holds}
 use Rattle.service.specs.Opening.{priced, costed, opened, costs_below as all_costs}
 use Rattle.service.proofs.Prices.{passed_fair}
 use Rattle.service.specs.Sheets.{entry_of, entries_below, sheet_of, entry_from}
@@ -124,7 +125,7 @@ same_values : {n m l k s r : ℕ} {xs ys : List Entry} → n ≡ m → l ≡ k �
 same_values {n} {m} {l} {k} {s} {r} {xs} {ys} en el es ex = ap (λ x. values x l s xs) en ∙ (ap (λ x. values m x s xs) el ∙ (ap (λ x. values m k x xs) es ∙ ap (λ x. values m k r x) ex))
 
 -- what the code puts together is the sheet of the rules
-pub sheet_told : {D : Type 0} (means : D → Meaning) (t : Terms) (lines : List Line) (s : Service D) (size : Size) (es : List Entry) (r : Result Sheet Refusal) → Sound (means s.design) → Holds means t lines s → opened t ≡ Ok tt → size ≡ sized (means s.design) → es ≡ map entry_from (vec_items s.ledger.accounts) → told r ≡ checked (values size.inputs s.ledger.limit s.ledger.spent es) → told r ≡ Ok (sheet_of t lines)
+pub sheet_told : {D : Type 0} {d : _} (means : D → Meaning) (t : Terms) (lines : List Line) (s : Service D d) (size : Size) (es : List Entry) (r : Result Sheet Refusal) → Sound (means s.design) → Holds means t lines s → opened t ≡ Ok tt → size ≡ sized (means s.design) → es ≡ map entry_from (vec_items s.ledger.accounts) → told r ≡ checked (values size.inputs s.ledger.limit s.ledger.spent es) → told r ≡ Ok (sheet_of t lines)
 sheet_told means t lines s size es r sound h ready q e told_is =
     let p = opened_priced t ready in
     let n : size.inputs ≡ t.meaning.inputs = ap (λ (z : Size). z.inputs) q ∙ ap (λ (m : Meaning). m.inputs) h.meaning in

@@ -1,56 +1,46 @@
--- A service that stands as the rules have it after some log lines: for whoever trusts the replies of one.
--- The lines, the accounts, the spent figure and the limit in its record are those that follow from the terms and the lines.
-use Rattle.std.specs.Prelude.{◌≡◌, ℕ, ◌<◌, ◌≤◌, List, length, vec_items, slice_index_or}
+-- What a service's terms and log lines are, and a service that stands by any: for whoever trusts the replies of one.
+-- By its own terms and lines every service stands.
+use Rattle.std.specs.Prelude.{◌≡◌, ℕ, ◌⊎◌, List, [], Ok, Err, vec_items, Result}
+use Rattle.refusal.specs.declared.table.Refusal.{Refusal}
+use Rattle.refusal.specs.declared.table.Refusal.TheVariants.{NoMemory}
 use Rattle.design.specs.Meaning.{Meaning}
-use Rattle.symmetric.specs.Vectors.{held}
-use Rattle.symmetric.specs.Nearest.{bits, wrong}
 use Rattle.commands.specs.declared.command.Answer.{Answer}
 use Rattle.commands.specs.declared.command.Command.{Command}
 use Rattle.commands.specs.declared.command.Line.{Line}
-use Rattle.commands.specs.Rules.{taken, spent, decided, numbered, logged, with_line}
+use Rattle.commands.specs.Rules.{numbered, logged}
 use Rattle.commands.specs.Promise.{Kept}
-use Rattle.rules.specs.Rules.{Terms, price, account}
-use Rattle.service.specs.declared.account.Account.{Account}
-use Rattle.service.specs.declared.ledger.Ledger.{Ledger}
+use Rattle.rules.specs.Rules.{Terms, account}
 use Rattle.service.specs.declared.service.Service.{Service}
+use Rattle.service.specs.Booked.{Booked}
+use Rattle.service.specs.Opening.{opened}
+use Rattle.service.specs.Stands.{terms_in}
 
--- an account says what the rules say of its output
-pub record Accounted (t : Terms) (lines : List Line) (o : ℕ) (a : Account) : Type 0 where
-  pub priced : a.price ≡ price t o
-  pub vector : held a.vector ≡ record { inputs = t.meaning.inputs; bits = bits t.meaning o }
-  pub errors : a.wrong ≡ wrong t.meaning o
-  pub moved : a.taken ≡ taken lines o
+-- the terms that a service is kept by
+abbrev pub terms_of : {D : Type 0} {d : _} → Service D d → Terms
+terms_of {D} {d} s = terms_in (d.meaning s.design) s.ledger
 
--- a ledger says what the rules say; there is an account for each output, and none costs more than 32 bits say
-pub record Booked (t : Terms) (lines : List Line) (ledger : Ledger) : Type 0 where
-  pub outputs : length (vec_items ledger.accounts) ≡ t.meaning.outputs
-  pub accounts : (outside : Account) (o : ℕ) → o < t.meaning.outputs → Accounted t lines o (slice_index_or (vec_items ledger.accounts) o outside)
-  pub limited : ledger.limit ≡ t.limit
-  pub spends : ledger.spent ≡ spent lines
-  pub cheap : (o : ℕ) → o < t.meaning.outputs → (account t).cost o ≤ 4294967295
+-- the lines of its log
+abbrev pub lines_of : {D : Type 0} {d : _} → Service D d → List Line
+lines_of s = vec_items s.log.lines
 
 -- the whole service: its design's meaning is that of the terms, its lines are the log, and the spent figure is true
-pub record Holds {D : Type 0} (means : D → Meaning) (t : Terms) (lines : List Line) (s : Service D) : Type 0 where
+pub record Holds {D : Type 0} {d : _} (means : D → Meaning) (t : Terms) (lines : List Line) (s : Service D d) : Type 0 where
   pub meaning : means s.design ≡ t.meaning
   pub log : vec_items s.log.lines ≡ lines
   pub ledger : Booked t lines s.ledger
   pub kept : Kept (account t) lines
 
--- a fresh command is decided by the rules, and the ledger is then that of one line more
-pub record Decides (t : Terms) (lines : List Line) (command : Command) (answer : Answer) (after : Ledger) : Type 0 where
-  pub answers : answer ≡ decided (account t) lines command
-  pub ledger : Booked t (with_line lines command answer) after
-
--- whatever the terms and lines are, if they were kept
-abbrev pub Decided : Command → Ledger → Answer → Ledger → Type 0
-Decided command before answer after = (t : Terms) (lines : List Line) → Booked t lines before → Kept (account t) lines → Decides t lines command answer after
-
 -- a numbered command is answered by the rules, and the service then stands as they have it
-pub record Obeys {D : Type 0} (means : D → Meaning) (t : Terms) (lines : List Line) (number : ℕ) (command : Command) (answer : Answer) (after : Service D) : Type 0 where
+pub record Obeys {D : Type 0} {d : _} (means : D → Meaning) (t : Terms) (lines : List Line) (number : ℕ) (command : Command) (answer : Answer) (after : Service D d) : Type 0 where
   pub answers : answer ≡ numbered (account t) lines number command
   pub stands : Holds means t (logged (account t) lines number command) after
 
 -- whatever the terms and lines are, if it stood so before
-abbrev pub Obeyed : {D : Type 0} → (D → Meaning) → ℕ → Command → Service D → Answer → Service D → Type 0
+abbrev pub Obeyed : {D : Type 0} {d : _} → (D → Meaning) → ℕ → Command → Service D d → Answer → Service D d → Type 0
 Obeyed means number command before answer after =
     (t : Terms) (lines : List Line) → Holds means t lines before → Obeys means t lines number command answer after
+
+-- a service that was opened stands as the rules have it at no lines; a refusal is the one that was due, or want of memory where none was
+abbrev pub Opened : {D : Type 0} {d : _} → (D → Meaning) → Terms → Result (Service D d) Refusal → Type 0
+Opened means t (Ok service) = (opened t ≡ Ok tt) × Holds means t [] service
+Opened means t (Err why) = (opened t ≡ Err why) ⊎ ((why ≡ NoMemory) × (opened t ≡ Ok tt))

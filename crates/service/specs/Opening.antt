@@ -6,8 +6,7 @@ use Rattle.refusal.specs.declared.table.Refusal.TheVariants.{CostTooLarge, BadPr
 use Rattle.rows.specs.Rows.{sum_below}
 use Rattle.design.specs.Meaning.{Meaning}
 use Rattle.rules.specs.Rules.{Terms, account}
-use Rattle.service.specs.declared.service.Service.{Service}
-use Rattle.service.specs.Holds.{Accounted, Holds}
+use Rattle.service.specs.Booked.{Accounted}
 use Rattle.service.specs.declared.account.Account.{Account}
 
 -- there is an output at the position, and its price is 1 to 255
@@ -49,8 +48,3 @@ pub record AllAccounts (m : Meaning) (prices : List ℕ) (accounts : List Accoun
 abbrev pub AccountsMade : {V : Type 0} → (V → List Account) → Meaning → List ℕ → Result V Refusal → Type 0
 AccountsMade items m prices (Ok accounts) = AllAccounts m prices (items accounts)
 AccountsMade items m prices (Err why) = why ≡ NoMemory
-
--- a service that was opened stands as the rules have it at no lines; a refusal is the one that was due, or want of memory where none was
-abbrev pub Opened : {D : Type 0} → (D → Meaning) → Terms → Result (Service D) Refusal → Type 0
-Opened means t (Ok service) = (opened t ≡ Ok tt) × Holds means t [] service
-Opened means t (Err why) = (opened t ≡ Err why) ⊎ ((why ≡ NoMemory) × (opened t ≡ Ok tt))

@@ -36,7 +36,7 @@ said_drawn (Ok d) buffer = draws d.root (take d.count buffer)
 said_drawn (Err why) buffer = refused why
 
 -- a call on a service that stands as the rules have it is replied by them
-abbrev pub Replied : {D : Type 0} → (D → Meaning) → Call → Service D → Said → Type 0
+abbrev pub Replied : {D : Type 0} {d : _} → (D → Meaning) → Call → Service D d → Said → Type 0
 Replied means call service said = (t : Terms) (lines : List Line) → Holds means t lines service → said ≡ reply t lines call
 
 -- a lent buffer after a draw: drawn over if the output is there and taken, else as before
@@ -44,5 +44,5 @@ abbrev pub lent_after : Terms → List Line → ℕ → List Node → List Node
 lent_after t lines o buffer = cond (nat_lt o t.meaning.outputs) (cond (taken lines o) (drawn_over (drawing t o) buffer) buffer) buffer
 
 -- a draw on a service that stands as the rules have it leaves the buffer so
-abbrev pub DrawnByRules : {D : Type 0} → (D → Meaning) → ℕ → Service D → List Node → List Node → Type 0
+abbrev pub DrawnByRules : {D : Type 0} {d : _} → (D → Meaning) → ℕ → Service D d → List Node → List Node → Type 0
 DrawnByRules means o service buffer after = (t : Terms) (lines : List Line) → Holds means t lines service → after ≡ lent_after t lines o buffer

@@ -34,5 +34,5 @@ abbrev pub entry_from : Account → Entry
 entry_from a = record { price = min a.price 255; taken = a.taken; vector = a.vector.bits; wrong = a.wrong }
 
 -- where the opening on these terms is not refused, the sheet, or none for want of memory
-abbrev pub Sheeted : {D : Type 0} → (D → Meaning) → Service D → Result Sheet Refusal → Type 0
+abbrev pub Sheeted : {D : Type 0} {d : _} → (D → Meaning) → Service D d → Result Sheet Refusal → Type 0
 Sheeted means s r = (t : Terms) (lines : List Line) → Holds means t lines s → opened t ≡ Ok tt → (told r ≡ Ok (sheet_of t lines)) ⊎ (r ≡ Err NoMemory)

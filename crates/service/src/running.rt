@@ -1,35 +1,18 @@
 // A whole list of calls on a fresh service.
-ghost use Rattle.std.specs.Prelude.{◌≡◌, map, IfOk};
+ghost use Rattle.std.specs.Prelude.{◌≡◌, IfOk};
 ghost use Rattle.rules.specs.declared.call.Call.TheVariants.{Draw};
 ghost use Rattle.rules.specs.Promise.{Promised};
+ghost use Rattle.rules.specs.Rules.{reply, logs};
 ghost use Rattle.service.specs.Opening.{terms};
-ghost use Rattle.service.specs.Replies.{said_shown, said_mark, Replied};
-ghost use Rattle.service.specs.Runs.{told, Stepped, Ran};
+ghost use Rattle.service.specs.Holds.{terms_of, lines_of};
+ghost use Rattle.service.specs.Runs.{told, Ran};
 
 use crate::service::Service;
-use design::{Design, Mark};
+use design::Design;
 use diagram::Node;
 use refusal::Refusal;
-use rules::{Call, Reply, Shown};
+use rules::{Call, Reply};
 use std::alloc::{AllocError, Global};
-
-fn shown_reply(shown: Result<Shown, Refusal>) -> Reply
-    ensures { told result ≡ said_shown shown }
-{
-    match shown {
-        Ok(shown) => Reply::Shown(shown),
-        Err(refusal) => Reply::Refused(refusal),
-    }
-}
-
-fn mark_reply(mark: Result<Mark, Refusal>) -> Reply
-    ensures { told result ≡ said_mark mark }
-{
-    match mark {
-        Ok(mark) => Reply::Marked(mark),
-        Err(refusal) => Reply::Refused(refusal),
-    }
-}
 
 // A draw's reply, with its nodes. No drawing has more than 136, so more room than that is never used.
 fn drawn_reply<D: Design + Drop>(
@@ -38,7 +21,7 @@ fn drawn_reply<D: Design + Drop>(
     output: u32,
     room: u32,
 ) -> Result<Reply, AllocError>
-    ensures { IfOk result (λ reply. Replied D.Design.meaning (Draw output room) service.now (told reply)) }
+    ensures { IfOk result (λ r. told r ≡ reply (terms_of service.now) (lines_of service.now) (Draw output room)) }
 {
     let blank = Node {
         level: 0,
@@ -64,14 +47,16 @@ fn reply_to<D: Design + Drop>(
     service: &mut Service<D>,
     call: Call,
 ) -> Result<Reply, AllocError>
-    ensures { IfOk result (λ reply. Stepped D.Design.meaning call service.old (told reply) service.new) }
+    ensures answer { IfOk result (λ r. told r ≡ reply (terms_of service.old) (lines_of service.old) call) }
+    ensures lines { IfOk result (λ _. lines_of service.new ≡ logs (terms_of service.old) (lines_of service.old) call) }
+    ensures terms { terms_of service.new ≡ terms_of service.old }
 {
     match call {
         Call::Take { number, output } => Ok(Reply::Answered(service.take(number, output))),
         Call::Back { number, output } => Ok(Reply::Answered(service.back(number, output))),
         Call::Ask => Ok(Reply::Asked(service.ask())),
-        Call::Show { output } => Ok(shown_reply(service.show(output))),
-        Call::Read { output, row } => Ok(mark_reply(service.read(output, row))),
+        Call::Show { output } => Ok(service.show(output).map_or_else(Reply::Refused, Reply::Shown)),
+        Call::Read { output, row } => Ok(service.read(output, row).map_or_else(Reply::Refused, Reply::Marked)),
         Call::Draw { output, room } => drawn_reply(heap, service, output, room),
     }
 }

@@ -1,6 +1,10 @@
 // Take and back.
+ghost use Rattle.std.specs.Prelude.{◌≡◌};
 ghost use Rattle.commands.specs.declared.command.Command.TheVariants.{Take, Back};
-ghost use Rattle.service.specs.Holds.{Decided, Obeyed};
+ghost use Rattle.commands.specs.Rules.{numbered, logged};
+ghost use Rattle.rules.specs.Rules.{account};
+ghost use Rattle.service.specs.Booked.{Decided};
+ghost use Rattle.service.specs.Holds.{terms_of, lines_of, Obeyed};
 
 use crate::ledger::Ledger;
 use crate::log::Log;
@@ -23,7 +27,10 @@ impl Ledger {
 impl<D: Design + Drop> Service<D> {
     // A command under its number: a repeat is answered as before, and only a fresh one is decided, and logged.
     fn obey(&mut self, number: u32, command: Command) -> Answer
-        ensures { Obeyed D.Design.meaning number command self.old result self.new }
+        ensures answer { result ≡ numbered (account (terms_of self.old)) (lines_of self.old) number command }
+        ensures lines { lines_of self.new ≡ logged (account (terms_of self.old)) (lines_of self.old) number command }
+        ensures terms { terms_of self.new ≡ terms_of self.old }
+        ensures obeyed { Obeyed D.Design.meaning number command self.old result self.new }
     {
         if let Some(answer) = self.log.settled(number, command) {
             return answer;
@@ -35,14 +42,20 @@ impl<D: Design + Drop> Service<D> {
 
     // Takes an output, under the number of the command.
     pub fn take(&mut self, number: u32, output: u32) -> Answer
-        ensures { Obeyed D.Design.meaning number (Take output) self.old result self.new }
+        ensures answer { result ≡ numbered (account (terms_of self.old)) (lines_of self.old) number (Take output) }
+        ensures lines { lines_of self.new ≡ logged (account (terms_of self.old)) (lines_of self.old) number (Take output) }
+        ensures terms { terms_of self.new ≡ terms_of self.old }
+        ensures obeyed { Obeyed D.Design.meaning number (Take output) self.old result self.new }
     {
         self.obey(number, Command::Take { output })
     }
 
     // Puts an output back, under the number of the command.
     pub fn back(&mut self, number: u32, output: u32) -> Answer
-        ensures { Obeyed D.Design.meaning number (Back output) self.old result self.new }
+        ensures answer { result ≡ numbered (account (terms_of self.old)) (lines_of self.old) number (Back output) }
+        ensures lines { lines_of self.new ≡ logged (account (terms_of self.old)) (lines_of self.old) number (Back output) }
+        ensures terms { terms_of self.new ≡ terms_of self.old }
+        ensures obeyed { Obeyed D.Design.meaning number (Back output) self.old result self.new }
     {
         self.obey(number, Command::Back { output })
     }

@@ -1,6 +1,7 @@
 // How a service is opened.
-ghost use Rattle.std.specs.Prelude.{◌≡◌, Ok, vec_items};
-ghost use Rattle.service.specs.Opening.{fair, priced, terms, AccountsMade, Opened};
+ghost use Rattle.std.specs.Prelude.{◌≡◌, [], Ok, IfOk, vec_items};
+ghost use Rattle.service.specs.Opening.{fair, priced, terms, AccountsMade};
+ghost use Rattle.service.specs.Holds.{terms_of, lines_of, Opened};
 
 use crate::account::Account;
 use crate::ledger::Ledger;
@@ -60,7 +61,9 @@ fn open_accounts<D: Design>(
 impl<D: Design + Drop> Service<D> {
     // A service on a design, with a price for each output: nothing is taken, spent or logged.
     pub fn open(heap: Global, design: D, limit: u32, prices: &[u32]) -> Result<Service<D>, Refusal>
-        ensures { Opened D.Design.meaning (terms (D.Design.meaning design) limit prices.now) result }
+        ensures opened { Opened D.Design.meaning (terms (D.Design.meaning design) limit prices.now) result }
+        ensures terms { IfOk result (λ service. terms_of service ≡ terms (D.Design.meaning design) limit prices.now) }
+        ensures lines { IfOk result (λ service. lines_of service ≡ []) }
     {
         check_prices(design.size().outputs, prices)?;
         let accounts = open_accounts(heap, &design, prices)?;

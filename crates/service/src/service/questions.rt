@@ -2,7 +2,9 @@
 ghost use Rattle.std.specs.Prelude.{◌≡◌, ◌^◌, ◌<◌, length, vec_len};
 ghost use Rattle.rules.specs.declared.call.Call.TheVariants.{Ask, Show, Read, Draw};
 ghost use Rattle.service.specs.Books.{account_at, flags};
-ghost use Rattle.service.specs.Replies.{said_asked, said_shown, said_mark, said_drawn, Replied, DrawnByRules};
+ghost use Rattle.rules.specs.Rules.{reply};
+ghost use Rattle.service.specs.Holds.{terms_of, lines_of};
+ghost use Rattle.service.specs.Replies.{said_asked, said_shown, said_mark, said_drawn, lent_after, Replied, DrawnByRules};
 
 use crate::account::Account;
 use crate::ledger::Ledger;
@@ -41,7 +43,8 @@ impl Ledger {
 impl<D: Design + Drop> Service<D> {
     // The limit, the spent figure, the count of log lines and the taken set.
     pub fn ask(&self) -> Asked
-        ensures { Replied D.Design.meaning Ask self.now (said_asked result) }
+        ensures answer { said_asked result ≡ reply (terms_of self.now) (lines_of self.now) Ask }
+        ensures replied { Replied D.Design.meaning Ask self.now (said_asked result) }
     {
         Asked {
             limit: self.ledger.limit,
@@ -53,7 +56,8 @@ impl<D: Design + Drop> Service<D> {
 
     // The vector and the wrong count of an output's nearest symmetric function.
     pub fn show(&self, output: u32) -> Result<Shown, Refusal>
-        ensures { Replied D.Design.meaning (Show output) self.now (said_shown result) }
+        ensures answer { said_shown result ≡ reply (terms_of self.now) (lines_of self.now) (Show output) }
+        ensures replied { Replied D.Design.meaning (Show output) self.now (said_shown result) }
     {
         let account = self.ledger.account(output)?;
         Ok(Shown {
@@ -64,7 +68,8 @@ impl<D: Design + Drop> Service<D> {
 
     // The mark handed out: the vector's value at the row's count of ones if the output is taken, else the design's.
     pub fn read(&self, output: u32, row: u32) -> Result<Mark, Refusal>
-        ensures { Replied D.Design.meaning (Read output row) self.now (said_mark result) }
+        ensures answer { said_mark result ≡ reply (terms_of self.now) (lines_of self.now) (Read output row) }
+        ensures replied { Replied D.Design.meaning (Read output row) self.now (said_mark result) }
     {
         let account = self.ledger.account(output)?;
         if !account.taken {
@@ -79,8 +84,10 @@ impl<D: Design + Drop> Service<D> {
 
     // Draws a taken output's function into a lent buffer.
     pub fn draw(&self, output: u32, buffer: &mut [Node]) -> Result<Drawn, Refusal>
-        ensures reply { Replied D.Design.meaning (Draw output (length buffer.old)) self.now (said_drawn result buffer.new) }
-        ensures after { DrawnByRules D.Design.meaning output self.now buffer.old buffer.new }
+        ensures answer { said_drawn result buffer.new ≡ reply (terms_of self.now) (lines_of self.now) (Draw output (length buffer.old)) }
+        ensures after { buffer.new ≡ lent_after (terms_of self.now) (lines_of self.now) output buffer.old }
+        ensures replied { Replied D.Design.meaning (Draw output (length buffer.old)) self.now (said_drawn result buffer.new) }
+        ensures drawn { DrawnByRules D.Design.meaning output self.now buffer.old buffer.new }
     {
         let Account {
             taken: true,

@@ -1,11 +1,8 @@
-use Rattle.std.proofs.Common.{◌≡◌, [], map, take, vec_items}
-use Rattle.rules.specs.Rules.{Terms, lines, replies}
-use Rattle.service.specs.Holds.{Holds}
-use Rattle.service.specs.Runs.{told}
+use Rattle.std.proofs.Common.{vec_items}
+use Rattle.service.specs.Holds.{terms_of, lines_of}
+use Rattle.service.proofs.Gone.{Gone}
 use Rattle.service.proofs.running.run.Given as goal
 
--- whatever terms the service stood by when it was opened: it stands by them after the calls so far, and these were replied by them
+-- the calls so far were replied by the terms of the opening, and the service is kept by them
 abbrev pub invariant-loop-call : goal.invariant-loop-call
-invariant-loop-call g l =
-    (t : Terms) → Holds g.D.Design.meaning t [] l.initial.service
-    → Holds g.D.Design.meaning t (lines t (take l.call-index l.calls)) l.service × (map told (vec_items l.replies) ≡ replies t (take l.call-index l.calls))
+invariant-loop-call g l = Gone (terms_of l.initial.service) l.calls l.call-index (terms_of l.service) (lines_of l.service) (vec_items l.replies)

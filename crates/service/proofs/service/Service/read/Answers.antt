@@ -5,6 +5,7 @@ use Rattle.std.proofs.lemmas.Bool.{eq-eqb, ne_eqb}
 use Rattle.std.proofs.lemmas.Nat.{ones-le}
 use Rattle.symmetric.specs.Vectors.{value}
 use Rattle.service.proofs.Handing.{account_told, row_told, taken_read}
+use Rattle.service.proofs.Own.{own}
 use Rattle.service.proofs.service.Service.read.Goals as goal
 
 -- a row that is there has no more ones than there are inputs, which are 16 at most
@@ -16,8 +17,8 @@ overflow_shr-bits g c =
     let weight = ones-le c.size.result.inputs c.args.row (row_told c.size.result c.args.output c.args.row c.in_ok-check_row.ensures) in
     omega arith
 
-pub returns-then-bits-row-eq1 : goal.returns-then-bits-row-eq1
-returns-then-bits-row-eq1 g c t lines h =
+pub returns-then-bits-row-eq1-clause-replied : goal.returns-then-bits-row-eq1-clause-replied
+returns-then-bits-row-eq1-clause-replied g c t lines h =
     let p = account_told t lines _ _ _ h.ledger c.in_ok-account.ensures in
     let row = row_told c.size.result c.args.output c.args.row c.in_ok-check_row.ensures in
     let same : c.size.result.inputs ≡ t.meaning.inputs = ap (λ s. s.inputs) c.size.ensures ∙ ap (λ m. m.inputs) h.meaning in
@@ -26,8 +27,8 @@ returns-then-bits-row-eq1 g c t lines h =
     taken_read t lines c.args.output c.args.row c.in_ok-account.account true p.0 p.1 c.if-not-account.false there
     (ap (λ b. value b (ones c.args.row)) (sym c.bits.ensures) ∙ one)
 
-pub returns : goal.returns
-returns g c t lines h =
+pub returns-clause-replied : goal.returns-clause-replied
+returns-clause-replied g c t lines h =
     let p = account_told t lines _ _ _ h.ledger c.in_ok-account.ensures in
     let row = row_told c.size.result c.args.output c.args.row c.in_ok-check_row.ensures in
     let same : c.size.result.inputs ≡ t.meaning.inputs = ap (λ s. s.inputs) c.size.ensures ∙ ap (λ m. m.inputs) h.meaning in
@@ -35,3 +36,9 @@ returns g c t lines h =
     let one : value c.bits.result (ones c.args.row) ≡ false = ne_eqb _ _ (λ e. c.if-bits-row-eq1.false (and_mask (c.bits.result / 2 ^ ones c.args.row) 1 ∙ e)) in
     taken_read t lines c.args.output c.args.row c.in_ok-account.account false p.0 p.1 c.if-not-account.false there
     (ap (λ b. value b (ones c.args.row)) (sym c.bits.ensures) ∙ one)
+
+pub returns-then-bits-row-eq1-clause-answer : goal.returns-then-bits-row-eq1-clause-answer
+returns-then-bits-row-eq1-clause-answer g c = returns-then-bits-row-eq1-clause-replied g c _ _ (own c.args.self.now)
+
+pub returns-clause-answer : goal.returns-clause-answer
+returns-clause-answer g c = returns-clause-replied g c _ _ (own c.args.self.now)

@@ -1,6 +1,6 @@
 use Rattle.std.proofs.Common.{◌≡◌, ℕ, ◌<◌, ◌≤◌, [], length, get_or, vec_items, vec_capacity}
 use Rattle.service.specs.declared.account.Account.{Account}
-use Rattle.service.specs.Holds.{Accounted}
+use Rattle.service.specs.Booked.{Accounted}
 use Rattle.service.specs.Opening.{terms}
 use Rattle.service.proofs.service.open.open_accounts.Given as goal
 
