@@ -20,8 +20,8 @@ terms_told t lines ledger n b =
     let price : Account → ℕ = λ a. a.price in
     let xs = vec_items ledger.accounts in
     let same : map price xs ≡ t.prices =
-        ext_get_or 0 (map price xs) t.prices (length-map xs price ∙ b.outputs ∙ sym n)
-        (λ o h. let l = length-map xs price in let k = b.outputs in get_or-map price xs o no_account 0 (omega arith) ∙ (b.accounts no_account o (omega arith)).priced) in
+    ext_get_or 0 (map price xs) t.prices (length-map xs price ∙ b.outputs ∙ sym n)
+    (λ o h. let l = length-map xs price in let k = b.outputs in get_or-map price xs o no_account 0 (omega arith) ∙ (b.accounts no_account o (omega arith)).priced) in
     ap₂ (λ l p. terms t.meaning l p) b.limited same
 
 -- and stands where these can be opened on and the spent figure is true

@@ -1,5 +1,7 @@
 -- The prices tried one after another, and what passing or refusing them says.
-use Rattle.std.proofs.Common.{◌≡◌, ℕ, zero, suc, ◌+◌, ◌<◌, ◌≤◌, Bool, true, false, cond, ◌&&◌, ltb, leb, List, length, get_or, drop, Ok, Err, Result, refl, subst, ⊎_elim, arith}
+use Rattle.std.proofs.Common.{◌≡◌, ℕ, zero, suc, ◌+◌, ◌<◌, ◌≤◌, Bool, true, false, not, cond, ◌&&◌, ltb, leb, List, [], ◌∷◌, length, get_or, drop, position, Some, None, Option, Ok, Err, Result, sym, refl, ap₂, ◌∙◌, subst, ⊎_elim, add-zero, zero-add, arith}
+use Rattle.std.specs.List.{position_from, enumerate_from}
+use Rattle.std.proofs.lemmas.Iterator.Adapters.{position_from-zero}
 use Rattle.std.proofs.lemmas.List.{at_drop_more, at_drop_all, get_or_past}
 use Rattle.std.proofs.lemmas.Bool.{and_parts, and_cases, cases_lt, ltb-true, ltb-false, leb-true, leb-false}
 use Rattle.refusal.specs.declared.table.Refusal.{Refusal}
@@ -70,3 +72,28 @@ pub priced_small : (outputs : ℕ) (prices : List ℕ) → priced outputs prices
 priced_small outputs prices e k =
     let f = passed_fair outputs prices e in
     ⊎_elim (λ there. (f.each k (omega (arith, f.many))).most) (λ past. rw (get_or_past prices k 0 past) (omega arith)) (cases_lt k (length prices))
+
+-- a position is surplus, or its price is not 1 to 255
+abbrev pub unfair : ℕ → ℕ × ℕ → Bool
+unfair outputs p = not (fair outputs p.0 p.1)
+
+-- what the first such position says, or that there is none before the end
+abbrev pub judged : ℕ → ℕ → Option ℕ → Result (Unit {0}) Refusal
+judged outputs end (Some k) = Err (BadPrice k)
+judged outputs end None = cond (ltb end outputs) (Err (BadPrice end)) (Ok tt)
+
+judged_from : (outputs k : ℕ) (prices : List ℕ) → priced_from outputs k prices ≡ judged outputs (k + length prices) (position_from (unfair outputs) k (enumerate_from k prices))
+unfolding priced_from
+judged_from outputs k [] = rw add-zero refl
+judged_from outputs k (p ∷ later) = go (fair outputs k p) (judged_from outputs (k + 1) later)
+  where
+    go : (here : Bool) → priced_from outputs (k + 1) later ≡ judged outputs (k + 1 + length later) (position_from (unfair outputs) (k + 1) (enumerate_from (k + 1) later))
+        → cond here (priced_from outputs (k + 1) later) (Err (BadPrice k)) ≡ judged outputs (k + length (p ∷ later)) (cond (not here) (Some k) (position_from (unfair outputs) (k + 1) (enumerate_from (k + 1) later)))
+    go true e = let n : k + 1 + length later ≡ k + length (p ∷ later) = omega arith in rw (← n) e
+    go false e = refl
+
+-- the prices are judged by that position
+pub judged_whole : (outputs : ℕ) (prices : List ℕ) → priced outputs prices ≡ judged outputs (length prices) (position (unfair outputs) (enumerate_from 0 prices))
+judged_whole outputs prices =
+    judged_from outputs 0 prices
+    ∙ ap₂ (judged outputs) (zero-add (length prices)) (sym (position_from-zero (unfair outputs) (enumerate_from 0 prices)))

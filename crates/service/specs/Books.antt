@@ -30,6 +30,11 @@ with_taken ledger o t = slice_set (vec_items ledger.accounts) o (marked_taken (a
 abbrev pub cost : Account → ℕ
 cost a = a.price * a.wrong
 
+-- an answer from the spent figure that it tells, or a refusal
+abbrev pub answered : (ℕ → Answer) → Result ℕ Refusal → Answer
+answered granted (Ok spent) = granted spent
+answered granted (Err why) = Refused why
+
 -- the three ways of a take: a refusal, the limit passed by so much, or the new spent figure
 abbrev pub take_answer : Ledger → ℕ → Answer
 take_answer ledger o =

@@ -1,6 +1,7 @@
 // Fresh commands, as the ledger decides them.
-ghost use Rattle.std.specs.Prelude.{◌≡◌, ◌*◌, ◌≤◌, true, false};
-ghost use Rattle.service.specs.Books.{marked_taken, take_answer, back_answer, accounts_after, spent_after};
+ghost use Rattle.std.specs.Prelude.{◌≡◌, ◌*◌, ◌<◌, ◌≤◌, true, false, length, IfOk};
+ghost use Rattle.commands.specs.declared.command.Answer.TheVariants.{Taken, PutBack};
+ghost use Rattle.service.specs.Books.{account_at, with_taken, answered, take_answer, back_answer, accounts_after, spent_after};
 
 use crate::account::Account;
 use crate::ledger::Ledger;
@@ -15,67 +16,91 @@ impl Account {
     {
         u64::from(self.price) * u64::from(self.wrong)
     }
-
-    fn take(&mut self)
-        ensures { self.new ≡ marked_taken self.old true }
-    {
-        self.taken = true;
-    }
-
-    fn put_back(&mut self)
-        ensures { self.new ≡ marked_taken self.old false }
-    {
-        self.taken = false;
-    }
 }
 
 impl Ledger {
-    // Takes an output, if it is there, not taken, and within the limit.
+    // The account of an output.
+    pub(crate) fn account(&self, output: u32) -> Result<Account, Refusal>
+        ensures answer { result ≡ account_at self.now output }
+        ensures there { IfOk result (λ _. output < length self.now.accounts.items) }
+    {
+        self.accounts
+            .get(output as usize)
+            .copied()
+            .ok_or(Refusal::NoOutput)
+    }
+
+    // What is spent once an output is taken, if it is there, not taken, and within the limit.
+    fn spent_with(&self, output: u32) -> Result<u32, Refusal>
+        ensures answer { answered Taken result ≡ take_answer self.now output }
+        ensures there { IfOk result (λ _. output < length self.now.accounts.items) }
+    {
+        let account = self.account(output)?;
+        if account.taken {
+            return Err(Refusal::AlreadyTaken);
+        }
+        let limit = u64::from(self.limit);
+        let total = u64::from(self.spent) + account.cost();
+        if total > limit {
+            return Err(Refusal::OverLimit {
+                excess: (total - limit).min(4294967295) as u32,
+            });
+        }
+        Ok(total as u32)
+    }
+
+    // What is spent once an output is put back, if it is there and taken.
+    fn spent_without(&self, output: u32) -> Result<u32, Refusal>
+        ensures answer { answered PutBack result ≡ back_answer self.now output }
+        ensures there { IfOk result (λ _. output < length self.now.accounts.items) }
+    {
+        let account = self.account(output)?;
+        if !account.taken {
+            return Err(Refusal::NotTaken);
+        }
+        Ok(u64::from(self.spent).saturating_sub(account.cost()) as u32)
+    }
+
+    // Writes down whether an output is taken, and what is then spent.
+    fn enter(&mut self, output: u32, taken: bool, spent: u32)
+        requires { output < length self.old.accounts.items }
+        ensures accounts { self.new.accounts.items ≡ with_taken self.old output taken }
+        ensures spent { self.new.spent ≡ spent }
+        ensures limit { self.new.limit ≡ self.old.limit }
+    {
+        self.accounts[output as usize].taken = taken;
+        self.spent = spent;
+    }
+
+    // Takes an output, or refuses to.
     pub(crate) fn take(&mut self, output: u32) -> Answer
         ensures answer { result ≡ take_answer self.old output }
         ensures accounts { self.new.accounts.items ≡ accounts_after self.old output result }
         ensures spent { self.new.spent ≡ spent_after self.old result }
         ensures limit { self.new.limit ≡ self.old.limit }
     {
-        let place = output as usize;
-        if place >= self.accounts.len() {
-            return Answer::Refused(Refusal::NoOutput);
+        match self.spent_with(output) {
+            Ok(spent) => {
+                self.enter(output, true, spent);
+                Answer::Taken { spent }
+            }
+            Err(refusal) => Answer::Refused(refusal),
         }
-        let account = self.accounts[place];
-        if account.taken {
-            return Answer::Refused(Refusal::AlreadyTaken);
-        }
-        let limit = u64::from(self.limit);
-        let total = u64::from(self.spent) + account.cost();
-        if total > limit {
-            return Answer::Refused(Refusal::OverLimit {
-                excess: (total - limit).min(4294967295) as u32,
-            });
-        }
-        let spent = total as u32;
-        self.accounts[place].take();
-        self.spent = spent;
-        Answer::Taken { spent }
     }
 
-    // Puts an output back, if it is there and taken.
+    // Puts an output back, or refuses to.
     pub(crate) fn back(&mut self, output: u32) -> Answer
         ensures answer { result ≡ back_answer self.old output }
         ensures accounts { self.new.accounts.items ≡ accounts_after self.old output result }
         ensures spent { self.new.spent ≡ spent_after self.old result }
         ensures limit { self.new.limit ≡ self.old.limit }
     {
-        let place = output as usize;
-        if place >= self.accounts.len() {
-            return Answer::Refused(Refusal::NoOutput);
+        match self.spent_without(output) {
+            Ok(spent) => {
+                self.enter(output, false, spent);
+                Answer::PutBack { spent }
+            }
+            Err(refusal) => Answer::Refused(refusal),
         }
-        let account = self.accounts[place];
-        if !account.taken {
-            return Answer::Refused(Refusal::NotTaken);
-        }
-        let spent = u64::from(self.spent).saturating_sub(account.cost()) as u32;
-        self.accounts[place].put_back();
-        self.spent = spent;
-        Answer::PutBack { spent }
     }
 }

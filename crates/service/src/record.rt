@@ -22,17 +22,12 @@ impl Log {
         if number == 0 || number > count + 1 {
             return Some(Answer::Refused(Refusal::Gap { next: count + 1 }));
         }
-        if number <= count {
-            let line = self.lines[(number - 1) as usize];
-            if same_command(line.command, command) {
-                return Some(line.answer);
-            }
-            return Some(Answer::Refused(Refusal::NumberUsed { number }));
+        match self.lines.get((number - 1) as usize) {
+            Some(line) if same_command(line.command, command) => Some(line.answer),
+            Some(_) => Some(Answer::Refused(Refusal::NumberUsed { number })),
+            None if count == 256 => Some(Answer::Refused(Refusal::LogFull)),
+            None => None,
         }
-        if count == 256 {
-            return Some(Answer::Refused(Refusal::LogFull));
-        }
-        None
     }
 
     // One line more, while there is room.

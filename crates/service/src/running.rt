@@ -55,8 +55,16 @@ fn reply_to<D: Design + Drop>(
         Call::Take { number, output } => Ok(Reply::Answered(service.take(number, output))),
         Call::Back { number, output } => Ok(Reply::Answered(service.back(number, output))),
         Call::Ask => Ok(Reply::Asked(service.ask())),
-        Call::Show { output } => Ok(service.show(output).map_or_else(Reply::Refused, Reply::Shown)),
-        Call::Read { output, row } => Ok(service.read(output, row).map_or_else(Reply::Refused, Reply::Marked)),
+        Call::Show { output } => Ok(
+            service
+                .show(output)
+                .map_or_else(Reply::Refused, Reply::Shown),
+        ),
+        Call::Read { output, row } => Ok(
+            service
+                .read(output, row)
+                .map_or_else(Reply::Refused, Reply::Marked),
+        ),
         Call::Draw { output, room } => drawn_reply(heap, service, output, room),
     }
 }

@@ -1,5 +1,6 @@
 // How a service is opened.
-ghost use Rattle.std.specs.Prelude.{◌≡◌, [], Ok, IfOk, vec_items};
+ghost use Rattle.std.specs.Prelude.{◌≡◌, not, [], Ok, IfOk, vec_items, position};
+ghost use Rattle.std.specs.List.{enumerate_from};
 ghost use Rattle.service.specs.Opening.{fair, priced, terms, AccountsMade};
 ghost use Rattle.service.specs.Holds.{terms_of, lines_of, Opened};
 
@@ -16,24 +17,30 @@ use symmetric::{Nearest, nearest};
 fn is_fair(outputs: u32, position: usize, price: u32) -> bool
     ensures { result ≡ fair outputs position price }
 {
-    position < outputs as usize && price >= 1 && price <= 255
+    position < outputs as usize && (1..=255).contains(&price)
+}
+
+// The position of the first price that is surplus or not 1 to 255.
+fn first_unfair(outputs: u32, prices: &[u32]) -> Option<usize>
+    ensures { result ≡ position (λ p. not (fair outputs p.0 p.1)) (enumerate_from 0 prices.now) }
+{
+    prices
+        .iter()
+        .enumerate()
+        .position(|(position, price)| !is_fair(outputs, position, *price))
 }
 
 // Refuses the first price that is missing, surplus or not 1 to 255.
 fn check_prices(outputs: u32, prices: &[u32]) -> Result<(), Refusal>
     ensures { result ≡ priced outputs prices.now }
 {
-    for (position, price) in prices.iter().enumerate() {
-        if !is_fair(outputs, position, *price) {
-            return Err(Refusal::BadPrice { position });
-        }
-    }
-    if prices.len() < outputs as usize {
-        return Err(Refusal::BadPrice {
+    match first_unfair(outputs, prices) {
+        Some(position) => Err(Refusal::BadPrice { position }),
+        None if prices.len() < outputs as usize => Err(Refusal::BadPrice {
             position: prices.len(),
-        });
+        }),
+        None => Ok(()),
     }
-    Ok(())
 }
 
 // The accounts of all outputs. At most 255 × 32,768 each, their costs together never pass 32 bits.

@@ -1,7 +1,7 @@
 // What a service answers without changing.
 ghost use Rattle.std.specs.Prelude.{◌≡◌, ◌^◌, ◌<◌, length, vec_len};
 ghost use Rattle.rules.specs.declared.call.Call.TheVariants.{Ask, Show, Read, Draw};
-ghost use Rattle.service.specs.Books.{account_at, flags};
+ghost use Rattle.service.specs.Books.{flags};
 ghost use Rattle.rules.specs.Rules.{reply};
 ghost use Rattle.service.specs.Holds.{terms_of, lines_of};
 ghost use Rattle.service.specs.Replies.{said_asked, said_shown, said_mark, said_drawn, lent_after, Replied, DrawnByRules};
@@ -16,16 +16,6 @@ use refusal::Refusal;
 use rules::{Asked, Shown};
 
 impl Ledger {
-    fn account(&self, output: u32) -> Result<Account, Refusal>
-        ensures { result ≡ account_at self.now output }
-    {
-        let place = output as usize;
-        if place >= self.accounts.len() {
-            return Err(Refusal::NoOutput);
-        }
-        Ok(self.accounts[place])
-    }
-
     // The taken outputs, bit i for output i.
     fn taken_set(&self) -> u32
         ensures { result ≡ flags self.now.accounts.items (length self.now.accounts.items) }

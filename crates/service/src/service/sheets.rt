@@ -32,11 +32,7 @@ impl Ledger {
     fn entries(&self, heap: Global) -> Result<Vec<Entry>, AllocError>
         ensures { IfOk result (λ v. v.items ≡ map entry_from self.now.accounts.items) }
     {
-        let mut entries = Vec::new(heap);
-        for account in self.accounts.iter() {
-            entries.push(account.entry())?;
-        }
-        Ok(entries)
+        self.accounts.iter().map(Account::entry).collect(heap)
     }
 }
 

@@ -38,12 +38,12 @@ returns-clause-obeyed g c t lines h =
     record {
       answers = d.answers ∙ sym (fresh_answer (account t) lines c.args.number c.args.command (fresh_open lines c.args.number c.args.command e));
       stands = rw more
-      (record {
-        meaning = h.meaning;
-        log = c.add.ensures ∙ ap (λ l. with_line l c.args.command c.decide-answer.result) h.log;
-        ledger = d.ledger;
-        kept = open_keeps (account t) lines c.args.number c.args.command _ e d.answers h.kept;
-      });
+          (record {
+            meaning = h.meaning;
+            log = c.add.ensures ∙ ap (λ l. with_line l c.args.command c.decide-answer.result) h.log;
+            ledger = d.ledger;
+            kept = open_keeps (account t) lines c.args.number c.args.command _ e d.answers h.kept;
+          });
     }
 
 pub returns-clause-answer : goal.returns-clause-answer

@@ -19,7 +19,7 @@ overflow_shr-bits g c =
 
 pub returns-then-bits-row-eq1-clause-replied : goal.returns-then-bits-row-eq1-clause-replied
 returns-then-bits-row-eq1-clause-replied g c t lines h =
-    let p = account_told t lines _ _ _ h.ledger c.in_ok-account.ensures in
+    let p = account_told t lines _ _ _ h.ledger c.in_ok-account.ensures.answer in
     let row = row_told c.size.result c.args.output c.args.row c.in_ok-check_row.ensures in
     let same : c.size.result.inputs ≡ t.meaning.inputs = ap (λ s. s.inputs) c.size.ensures ∙ ap (λ m. m.inputs) h.meaning in
     let there : c.args.row < 2 ^ t.meaning.inputs = rw (← same) row in
@@ -29,7 +29,7 @@ returns-then-bits-row-eq1-clause-replied g c t lines h =
 
 pub returns-clause-replied : goal.returns-clause-replied
 returns-clause-replied g c t lines h =
-    let p = account_told t lines _ _ _ h.ledger c.in_ok-account.ensures in
+    let p = account_told t lines _ _ _ h.ledger c.in_ok-account.ensures.answer in
     let row = row_told c.size.result c.args.output c.args.row c.in_ok-check_row.ensures in
     let same : c.size.result.inputs ≡ t.meaning.inputs = ap (λ s. s.inputs) c.size.ensures ∙ ap (λ m. m.inputs) h.meaning in
     let there : c.args.row < 2 ^ t.meaning.inputs = rw (← same) row in

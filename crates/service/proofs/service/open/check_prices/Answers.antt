@@ -1,32 +1,15 @@
-use Rattle.std.proofs.Common.{◌≡◌, ◌<◌, ◌≤◌, length, Err, sym, ap, ◌∙◌, arith}
-use Rattle.refusal.specs.declared.table.Refusal.TheVariants.{BadPrice}
+use Rattle.std.proofs.Common.{length, sym, ap, ◌∙◌}
 use Rattle.std.proofs.lemmas.Bool.{cond-true, cond-false, lt-ltb, le-ltb}
-use Rattle.service.proofs.Prices.{price_step, price_end}
+use Rattle.service.proofs.Prices.{judged, judged_whole}
 use Rattle.service.proofs.service.open.check_prices.Goals as goal
 
-pub returns-then-not-is_fair : goal.returns-then-not-is_fair
-returns-then-not-is_fair c =
-    sym (price_step c.args.outputs c.args.prices.now c.loop-position.position c.loop-position-test.true ∙ cond-false _ _ _ (sym c.if-not-is_fair.ensures))
-    ∙ c.loop-position.invariant
+pub returns-in-Some : goal.returns-in-Some
+returns-in-Some c = sym (judged_whole c.args.outputs c.args.prices.now ∙ ap (judged c.args.outputs (length c.args.prices.now)) (sym c.in-Some.ensures))
 
-pub loop-position-preserved : goal.loop-position-preserved
-loop-position-preserved c =
-    sym (price_step c.args.outputs c.args.prices.now c.loop-position.position c.loop-position-test.true ∙ cond-true _ _ _ (sym c.if-not-is_fair.ensures))
-    ∙ c.loop-position.invariant
+pub returns-in-None : goal.returns-in-None
+returns-in-None c =
+    sym (judged_whole c.args.outputs c.args.prices.now ∙ ap (judged c.args.outputs (length c.args.prices.now)) (sym c.in-None.ensures) ∙ cond-true _ _ _ (lt-ltb _ _ c.if-prices-outputs.true))
 
-pub returns-then-prices-outputs : goal.returns-then-prices-outputs
-returns-then-prices-outputs c =
-    let end : c.loop-position.position ≡ length c.args.prices.now = omega arith in
-    let short : c.loop-position.position < c.args.outputs = omega arith in
-    sym (
-    price_end c.args.outputs c.args.prices.now c.loop-position.position c.loop-position-test.false
-    ∙ cond-true _ _ _ (lt-ltb _ _ short)
-    ∙ ap (λ k. Err (BadPrice k)) end
-    )
-    ∙ c.loop-position.invariant
-
-pub returns : goal.returns
-returns c =
-    let enough : c.args.outputs ≤ c.loop-position.position = omega arith in
-    sym (price_end c.args.outputs c.args.prices.now c.loop-position.position c.loop-position-test.false ∙ cond-false _ _ _ (le-ltb _ _ enough))
-    ∙ c.loop-position.invariant
+pub returns-in-None-2 : goal.returns-in-None-2
+returns-in-None-2 c =
+    sym (judged_whole c.args.outputs c.args.prices.now ∙ ap (judged c.args.outputs (length c.args.prices.now)) (sym c.in-None.ensures) ∙ cond-false _ _ _ (le-ltb _ _ c.if-prices-outputs.false))
