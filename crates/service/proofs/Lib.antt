@@ -1,5 +1,6 @@
 -- What the ledger and the log do to a service that stands as the rules have it.
 pub mod Own
+pub mod Alike
 pub mod Booking
 pub mod Obeying
 pub mod Flags

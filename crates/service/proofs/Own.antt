@@ -1,5 +1,5 @@
 -- A service stands by its own terms and lines, and by the same terms after a change.
-use Rattle.std.proofs.Common.{◌≡◌, ℕ, ◌<◌, List, map, length, get_or, Ok, vec_items, sym, refl, ap₂, ◌∙◌, subst, arith}
+use Rattle.std.proofs.Common.{◌≡◌, ℕ, List, map, length, Ok, vec_items, sym, ap₂, ◌∙◌, subst, arith}
 use Rattle.std.proofs.lemmas.List.{length-map, get_or-map, ext_get_or}
 use Rattle.design.specs.Meaning.{Meaning}
 use Rattle.commands.specs.declared.command.Line.{Line}
@@ -7,12 +7,10 @@ use Rattle.commands.specs.Promise.{Kept}
 use Rattle.rules.specs.Rules.{Terms, account}
 use Rattle.service.specs.declared.account.Account.{Account}
 use Rattle.service.specs.declared.ledger.Ledger.{Ledger}
-use Rattle.service.specs.declared.service.Service.{Service}
 use Rattle.service.specs.Books.{no_account}
 use Rattle.service.specs.Booked.{Booked}
 use Rattle.service.specs.Opening.{terms, opened}
 use Rattle.service.specs.Stands.{terms_in, Stands}
-use Rattle.service.specs.Holds.{terms_of, lines_of, Holds}
 
 -- a ledger that says what the rules say by some terms is kept by these
 pub terms_told : (t : Terms) (lines : List Line) (ledger : Ledger) → length t.prices ≡ t.meaning.outputs → Booked t lines ledger → terms_in t.meaning ledger ≡ t
@@ -38,7 +36,3 @@ stands_told t lines ledger n o b k =
 -- a price for each output
 pub many_prices : {m : Meaning} {ledger : Ledger} {lines : List Line} → Stands m ledger lines → length (terms_in m ledger).prices ≡ m.outputs
 many_prices {m} {ledger} s = length-map (vec_items ledger.accounts) (λ (a : Account). a.price) ∙ s.books.outputs
-
--- by its own terms and lines a service stands
-pub own : {D : Type 0} {d : _} (s : Service D d) → Holds d.meaning (terms_of s) (lines_of s) s
-own s = record { meaning = refl; log = refl; ledger = s.stands.books; kept = s.stands.kept }

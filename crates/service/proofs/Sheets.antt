@@ -1,5 +1,5 @@
 -- The entries of a service keep the rules of a burn sheet.
-use Rattle.std.proofs.Common.{◌≡◌, ℕ, zero, suc, ◌+◌, ◌-◌, ◌/◌, ◌^◌, ◌<◌, ◌≤◌, min, Bool, true, cond, ◌&&◌, eqb, leb, List, [], ◌∷◌, ◌++◌, map, length, get_or, Ok, Err, vec_items, Result, sym, refl, ap, ◌∙◌, subst, ⊎_elim, add-zero, add_assoc, zero-add, arith}
+use Rattle.std.proofs.Common.{◌≡◌, ℕ, zero, suc, ◌+◌, ◌-◌, ◌/◌, ◌^◌, ◌<◌, ◌≤◌, min, Bool, true, cond, ◌&&◌, eqb, leb, List, [], ◌∷◌, ◌++◌, map, length, get_or, Ok, Err, vec_items, Result, sym, refl, ap, ◌∙◌, ⊎_elim, add-zero, add_assoc, zero-add, arith}
 use native.Mathlib.Nat.{div-eq_of_lt}
 use Rattle.std.proofs.lemmas.List.{length_push, length-map, get_or-map, get_or_append_left, get_or_at, ext_get_or}
 use Rattle.std.proofs.lemmas.Bool.{eq-eqb, le-leb, and_from, and_parts, cases_order}
@@ -23,10 +23,9 @@ use Rattle.rules.specs.Rules.{Terms, price, account}
 use Rattle.service.specs.declared.account.Account.{Account}
 use Rattle.service.specs.declared.ledger.Ledger.{Ledger}
 use Rattle.service.specs.Books.{no_account}
-use Rattle.service.specs.declared.service.Service.{Service}
 use Rattle.service.specs.Booked.{Accounted, Booked}
-use Rattle.service.specs.Holds.{Holds}
 use Rattle.service.specs.Opening.{priced, costed, opened, costs_below as all_costs}
+use Rattle.service.specs.Stands.{terms_in, Stands}
 use Rattle.service.proofs.Prices.{passed_fair}
 use Rattle.service.specs.Sheets.{entry_of, entries_below, sheet_of, entry_from}
 
@@ -125,9 +124,10 @@ same_values : {n m l k s r : ℕ} {xs ys : List Entry} → n ≡ m → l ≡ k �
 same_values {n} {m} {l} {k} {s} {r} {xs} {ys} en el es ex = ap (λ x. values x l s xs) en ∙ (ap (λ x. values m x s xs) el ∙ (ap (λ x. values m k x xs) es ∙ ap (λ x. values m k r x) ex))
 
 -- what the code puts together is the sheet of the rules
-pub sheet_told : {D : Type 0} {d : _} (means : D → Meaning) (t : Terms) (lines : List Line) (s : Service D d) (size : Size) (es : List Entry) (r : Result Sheet Refusal) → Sound (means s.design) → Holds means t lines s → opened t ≡ Ok tt → size ≡ sized (means s.design) → es ≡ map entry_from (vec_items s.ledger.accounts) → told r ≡ checked (values size.inputs s.ledger.limit s.ledger.spent es) → told r ≡ Ok (sheet_of t lines)
-sheet_told means t lines s size es r sound h ready q e told_is =
-    let p = opened_priced t ready in
-    let n : size.inputs ≡ t.meaning.inputs = ap (λ (z : Size). z.inputs) q ∙ ap (λ (m : Meaning). m.inputs) h.meaning in
-    let x : es ≡ entries_below t lines t.meaning.outputs = e ∙ accounts_listed t lines s.ledger h.ledger p in
-    told_is ∙ (ap checked (same_values n h.ledger.limited h.ledger.spends x) ∙ sheet_kept t lines (subst (λ (m : Meaning). Sound m) h.meaning sound) p h.kept)
+pub sheet_told : (m : Meaning) (lines : List Line) (ledger : Ledger) (size : Size) (es : List Entry) (r : Result Sheet Refusal) → Sound m → Stands m ledger lines → size ≡ sized m
+    → es ≡ map entry_from (vec_items ledger.accounts) → told r ≡ checked (values size.inputs ledger.limit ledger.spent es) → told r ≡ Ok (sheet_of (terms_in m ledger) lines)
+sheet_told m lines ledger size es r sound stands q e told_is =
+    let t = terms_in m ledger in
+    let p = opened_priced t stands.opens in
+    let x : es ≡ entries_below t lines m.outputs = e ∙ accounts_listed t lines ledger stands.books p in
+    told_is ∙ (ap checked (same_values (ap (λ (z : Size). z.inputs) q) refl stands.books.spends x) ∙ sheet_kept t lines sound p stands.kept)

@@ -9,3 +9,4 @@ pub mod Replies
 pub mod Prices
 pub mod Sheets
 pub mod Runs
+pub mod AnyTerms

@@ -4,7 +4,7 @@ ghost use Rattle.commands.specs.declared.command.Command.TheVariants.{Take, Back
 ghost use Rattle.commands.specs.Rules.{numbered, logged};
 ghost use Rattle.rules.specs.Rules.{account};
 ghost use Rattle.service.specs.Booked.{Decided};
-ghost use Rattle.service.specs.Holds.{terms_of, lines_of, Obeyed};
+ghost use Rattle.service.specs.Holds.{terms_of, lines_of};
 
 use crate::ledger::Ledger;
 use crate::log::Log;
@@ -30,7 +30,6 @@ impl<D: Design + Drop> Service<D> {
         ensures answer { result ≡ numbered (account (terms_of self.old)) (lines_of self.old) number command }
         ensures lines { lines_of self.new ≡ logged (account (terms_of self.old)) (lines_of self.old) number command }
         ensures terms { terms_of self.new ≡ terms_of self.old }
-        ensures obeyed { Obeyed D.Design.meaning number command self.old result self.new }
     {
         if let Some(answer) = self.log.settled(number, command) {
             return answer;
@@ -45,7 +44,6 @@ impl<D: Design + Drop> Service<D> {
         ensures answer { result ≡ numbered (account (terms_of self.old)) (lines_of self.old) number (Take output) }
         ensures lines { lines_of self.new ≡ logged (account (terms_of self.old)) (lines_of self.old) number (Take output) }
         ensures terms { terms_of self.new ≡ terms_of self.old }
-        ensures obeyed { Obeyed D.Design.meaning number (Take output) self.old result self.new }
     {
         self.obey(number, Command::Take { output })
     }
@@ -55,7 +53,6 @@ impl<D: Design + Drop> Service<D> {
         ensures answer { result ≡ numbered (account (terms_of self.old)) (lines_of self.old) number (Back output) }
         ensures lines { lines_of self.new ≡ logged (account (terms_of self.old)) (lines_of self.old) number (Back output) }
         ensures terms { terms_of self.new ≡ terms_of self.old }
-        ensures obeyed { Obeyed D.Design.meaning number (Back output) self.old result self.new }
     {
         self.obey(number, Command::Back { output })
     }

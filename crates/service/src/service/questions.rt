@@ -4,7 +4,7 @@ ghost use Rattle.rules.specs.declared.call.Call.TheVariants.{Ask, Show, Read, Dr
 ghost use Rattle.service.specs.Books.{flags};
 ghost use Rattle.rules.specs.Rules.{reply};
 ghost use Rattle.service.specs.Holds.{terms_of, lines_of};
-ghost use Rattle.service.specs.Replies.{said_asked, said_shown, said_mark, said_drawn, lent_after, Replied, DrawnByRules};
+ghost use Rattle.service.specs.Replies.{said_asked, said_shown, said_mark, said_drawn, lent_after};
 
 use crate::account::Account;
 use crate::ledger::Ledger;
@@ -33,8 +33,7 @@ impl Ledger {
 impl<D: Design + Drop> Service<D> {
     // The limit, the spent figure, the count of log lines and the taken set.
     pub fn ask(&self) -> Asked
-        ensures answer { said_asked result ≡ reply (terms_of self.now) (lines_of self.now) Ask }
-        ensures replied { Replied D.Design.meaning Ask self.now (said_asked result) }
+        ensures { said_asked result ≡ reply (terms_of self.now) (lines_of self.now) Ask }
     {
         Asked {
             limit: self.ledger.limit,
@@ -46,8 +45,7 @@ impl<D: Design + Drop> Service<D> {
 
     // The vector and the wrong count of an output's nearest symmetric function.
     pub fn show(&self, output: u32) -> Result<Shown, Refusal>
-        ensures answer { said_shown result ≡ reply (terms_of self.now) (lines_of self.now) (Show output) }
-        ensures replied { Replied D.Design.meaning (Show output) self.now (said_shown result) }
+        ensures { said_shown result ≡ reply (terms_of self.now) (lines_of self.now) (Show output) }
     {
         let account = self.ledger.account(output)?;
         Ok(Shown {
@@ -58,8 +56,7 @@ impl<D: Design + Drop> Service<D> {
 
     // The mark handed out: the vector's value at the row's count of ones if the output is taken, else the design's.
     pub fn read(&self, output: u32, row: u32) -> Result<Mark, Refusal>
-        ensures answer { said_mark result ≡ reply (terms_of self.now) (lines_of self.now) (Read output row) }
-        ensures replied { Replied D.Design.meaning (Read output row) self.now (said_mark result) }
+        ensures { said_mark result ≡ reply (terms_of self.now) (lines_of self.now) (Read output row) }
     {
         let account = self.ledger.account(output)?;
         if !account.taken {
@@ -76,8 +73,6 @@ impl<D: Design + Drop> Service<D> {
     pub fn draw(&self, output: u32, buffer: &mut [Node]) -> Result<Drawn, Refusal>
         ensures answer { said_drawn result buffer.new ≡ reply (terms_of self.now) (lines_of self.now) (Draw output (length buffer.old)) }
         ensures after { buffer.new ≡ lent_after (terms_of self.now) (lines_of self.now) output buffer.old }
-        ensures replied { Replied D.Design.meaning (Draw output (length buffer.old)) self.now (said_drawn result buffer.new) }
-        ensures drawn { DrawnByRules D.Design.meaning output self.now buffer.old buffer.new }
     {
         let Account {
             taken: true,

@@ -3,7 +3,7 @@ ghost use Rattle.std.specs.Prelude.{◌≡◌, ◌⊎◌, map, Ok, Err, IfOk};
 ghost use Rattle.refusal.specs.declared.table.Refusal.TheVariants.{NoMemory};
 ghost use Rattle.burn.specs.Files.{told};
 ghost use Rattle.service.specs.Holds.{terms_of, lines_of};
-ghost use Rattle.service.specs.Sheets.{entry_from, sheet_of, Sheeted};
+ghost use Rattle.service.specs.Sheets.{entry_from, sheet_of};
 
 use crate::account::Account;
 use crate::ledger::Ledger;
@@ -39,8 +39,7 @@ impl Ledger {
 impl<D: Design + Drop> Service<D> {
     // The sheet of the service as it stands; nothing but want of memory stands against one.
     pub fn sheet(&self, heap: Global) -> Result<Sheet, Refusal>
-        ensures answer { (told result ≡ Ok (sheet_of (terms_of self.now) (lines_of self.now))) ⊎ (result ≡ Err NoMemory) }
-        ensures sheeted { Sheeted D.Design.meaning self.now result }
+        ensures { (told result ≡ Ok (sheet_of (terms_of self.now) (lines_of self.now))) ⊎ (result ≡ Err NoMemory) }
     {
         let entries = self.ledger.entries(heap)?;
         Sheet::new(

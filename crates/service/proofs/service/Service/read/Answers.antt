@@ -1,11 +1,11 @@
-use Rattle.std.proofs.Common.{◌≡◌, ◌/◌, ◌^◌, ◌<◌, true, false, sym, ap, ◌∙◌, arith}
+use Rattle.std.proofs.Common.{◌≡◌, ◌/◌, ◌^◌, true, false, sym, ap, ◌∙◌, arith}
 use lib.Bits.{and_mask}
 use lib.Count.{ones}
 use Rattle.std.proofs.lemmas.Bool.{eq-eqb, ne_eqb}
 use Rattle.std.proofs.lemmas.Nat.{ones-le}
 use Rattle.symmetric.specs.Vectors.{value}
+use Rattle.service.specs.Holds.{terms_of, lines_of}
 use Rattle.service.proofs.Handing.{account_told, row_told, taken_read}
-use Rattle.service.proofs.Own.{own}
 use Rattle.service.proofs.service.Service.read.Goals as goal
 
 -- a row that is there has no more ones than there are inputs, which are 16 at most
@@ -17,28 +17,22 @@ overflow_shr-bits g c =
     let weight = ones-le c.size.result.inputs c.args.row (row_told c.size.result c.args.output c.args.row c.in_ok-check_row.ensures) in
     omega arith
 
-pub returns-then-bits-row-eq1-clause-replied : goal.returns-then-bits-row-eq1-clause-replied
-returns-then-bits-row-eq1-clause-replied g c t lines h =
-    let p = account_told t lines _ _ _ h.ledger c.in_ok-account.ensures.answer in
+pub returns-then-bits-row-eq1 : goal.returns-then-bits-row-eq1
+returns-then-bits-row-eq1 g c =
+    let s = c.args.self.now in
+    let p = account_told (terms_of s) (lines_of s) _ _ _ s.stands.books c.in_ok-account.ensures.answer in
     let row = row_told c.size.result c.args.output c.args.row c.in_ok-check_row.ensures in
-    let same : c.size.result.inputs ≡ t.meaning.inputs = ap (λ s. s.inputs) c.size.ensures ∙ ap (λ m. m.inputs) h.meaning in
-    let there : c.args.row < 2 ^ t.meaning.inputs = rw (← same) row in
+    let there = rw (ap (λ z. z.inputs) c.size.ensures) at row in
     let one : value c.bits.result (ones c.args.row) ≡ true = eq-eqb _ _ (sym (and_mask (c.bits.result / 2 ^ ones c.args.row) 1) ∙ c.if-bits-row-eq1.true) in
-    taken_read t lines c.args.output c.args.row c.in_ok-account.account true p.0 p.1 c.if-not-account.false there
+    taken_read (terms_of s) (lines_of s) c.args.output c.args.row c.in_ok-account.account true p.0 p.1 c.if-not-account.false there
     (ap (λ b. value b (ones c.args.row)) (sym c.bits.ensures) ∙ one)
 
-pub returns-clause-replied : goal.returns-clause-replied
-returns-clause-replied g c t lines h =
-    let p = account_told t lines _ _ _ h.ledger c.in_ok-account.ensures.answer in
+pub returns : goal.returns
+returns g c =
+    let s = c.args.self.now in
+    let p = account_told (terms_of s) (lines_of s) _ _ _ s.stands.books c.in_ok-account.ensures.answer in
     let row = row_told c.size.result c.args.output c.args.row c.in_ok-check_row.ensures in
-    let same : c.size.result.inputs ≡ t.meaning.inputs = ap (λ s. s.inputs) c.size.ensures ∙ ap (λ m. m.inputs) h.meaning in
-    let there : c.args.row < 2 ^ t.meaning.inputs = rw (← same) row in
+    let there = rw (ap (λ z. z.inputs) c.size.ensures) at row in
     let one : value c.bits.result (ones c.args.row) ≡ false = ne_eqb _ _ (λ e. c.if-bits-row-eq1.false (and_mask (c.bits.result / 2 ^ ones c.args.row) 1 ∙ e)) in
-    taken_read t lines c.args.output c.args.row c.in_ok-account.account false p.0 p.1 c.if-not-account.false there
+    taken_read (terms_of s) (lines_of s) c.args.output c.args.row c.in_ok-account.account false p.0 p.1 c.if-not-account.false there
     (ap (λ b. value b (ones c.args.row)) (sym c.bits.ensures) ∙ one)
-
-pub returns-then-bits-row-eq1-clause-answer : goal.returns-then-bits-row-eq1-clause-answer
-returns-then-bits-row-eq1-clause-answer g c = returns-then-bits-row-eq1-clause-replied g c _ _ (own c.args.self.now)
-
-pub returns-clause-answer : goal.returns-clause-answer
-returns-clause-answer g c = returns-clause-replied g c _ _ (own c.args.self.now)
