@@ -1,7 +1,6 @@
 -- Terms that say the same of every output that is there decide, reply and keep alike.
-use Rattle.std.proofs.Common.{◌≡◌, ℕ, zero, suc, ◌*◌, ◌<◌, ◌≤◌, Bool, true, false, cond, ltb, List, Ok, slice_index, vec_items, inl, inr, sym, refl, ap, ap₂, ◌∙◌, subst, ⊎_elim, arith}
+use Rattle.std.proofs.Common.{◌≡◌, ℕ, zero, suc, ◌*◌, ◌<◌, ◌≤◌, cond, List, Ok, slice_index, vec_items, inl, inr, sym, refl, ap, ap₂, ◌∙◌, subst, ⊎_elim, arith}
 use Rattle.std.proofs.lemmas.List.{get_or-map}
-use Rattle.std.proofs.lemmas.Bool.{ltb-true}
 use Rattle.rows.proofs.Sums.{sum_cong}
 use Rattle.design.specs.Meaning.{Meaning}
 use Rattle.symmetric.specs.Nearest.{wrong}
@@ -25,19 +24,12 @@ use Rattle.service.specs.Holds.{terms_of, lines_of, Holds}
 use Rattle.service.specs.Replies.{lent_after}
 use Rattle.service.specs.Sheets.{entries_below, sheet_of}
 use Rattle.service.specs.AnyTerms.{AnyTerms}
+use Rattle.service.proofs.Booking.{inside_alone}
 
 -- all but the prices are the same, and these are where an output is
 pub record Alike (t u : Terms) : Type 0 where
   pub rest : u ≡ terms t.meaning t.limit u.prices
   pub same : (o : ℕ) → o < t.meaning.outputs → price u o ≡ price t o
-
--- what is told only of an output that is there
-inside_alone : {X : Type 0} (o n : ℕ) (x y z : X) → (o < n → x ≡ y) → cond (ltb o n) x z ≡ cond (ltb o n) y z
-inside_alone {X} o n x y z f = go (ltb o n) refl
-  where
-    go : (b : Bool) → ltb o n ≡ b → cond b x z ≡ cond b y z
-    go true e = f (ltb-true _ _ e)
-    go false e = refl
 
 module _ (m : Meaning) (l : ℕ) (ps qs : List ℕ) (same : (o : ℕ) → o < m.outputs → slice_index ps o ≡ slice_index qs o) where
   decided_prices : (lines : List Line) (c : Command) → decided (account (terms m l ps)) lines c ≡ decided (account (terms m l qs)) lines c

@@ -1,8 +1,7 @@
 -- A ledger that says what the rules say decides by them, and says so after one line more.
-use Rattle.std.proofs.Common.{◌≡◌, ℕ, ◌+◌, ◌-◌, ◌*◌, ◌<◌, min, Bool, true, false, cond, eqb, ltb, leb, List, length, get_or, vec_items, sym, refl, ap, ◌∙◌, ap₂, ⊎_elim, arith, length-set}
+use Rattle.std.proofs.Common.{◌≡◌, ℕ, ◌+◌, ◌-◌, ◌*◌, ◌<◌, min, Bool, true, false, cond, eqb, ltb, List, length, get_or, vec_items, sym, refl, ap, ◌∙◌, ap₂, ⊎_elim, arith, length-set}
 use Rattle.std.proofs.lemmas.List.{get_or-set_same, get_or-set_other}
 use Rattle.std.proofs.lemmas.Bool.{cases_eq, cond-true, cond-false, eq-eqb, ne_eqb, ltb-true}
-use Rattle.refusal.specs.declared.table.Refusal.TheVariants.{AlreadyTaken, NotTaken, OverLimit}
 use Rattle.commands.specs.declared.command.Command.TheVariants.{Take, Back}
 use Rattle.commands.specs.declared.command.Answer.{Answer}
 use Rattle.commands.specs.declared.command.Answer.TheVariants.{Taken, PutBack, Refused}
@@ -69,50 +68,41 @@ same_books t lines more before after b moves accounts spends limits = record {
   cheap = b.cheap;
 }
 
-abbrev take_body : Bool → ℕ → ℕ → ℕ → Answer
-take_body held total limit excess = cond held (Refused AlreadyTaken) (cond (leb total limit) (Taken total) (Refused (OverLimit excess)))
-
-take_bodies : (h i : Bool) (m n j k x y : ℕ) → h ≡ i → m ≡ n → j ≡ k → x ≡ y → take_body h m j x ≡ take_body i n k y
-take_bodies h i m n j k x y p q r s = cc
+-- what is told only of an output that is there
+pub inside_alone : {X : Type 0} (o n : ℕ) (x y z : X) → (o < n → x ≡ y) → cond (ltb o n) x z ≡ cond (ltb o n) y z
+inside_alone {X} o n x y z f = go (ltb o n) refl
+  where
+    go : (b : Bool) → ltb o n ≡ b → cond b x z ≡ cond b y z
+    go true e = f (ltb-true _ _ e)
+    go false e = refl
 
 -- the ledger's answer to a take is the rules'
 take_same : (t : Terms) (lines : List Line) (before : Ledger) (o : ℕ) → Booked t lines before → Kept (account t) lines
     → take_answer before o ≡ decided (account t) lines (Take o)
-take_same t lines before o b k = go (ltb o (length (vec_items before.accounts))) refl
-  where
-    go : (inside : Bool) → ltb o (length (vec_items before.accounts)) ≡ inside → take_answer before o ≡ decided (account t) lines (Take o)
-    go false e = cond-false _ _ _ e ∙ sym (cond-false _ _ _ (ap (ltb o) (sym b.outputs) ∙ e))
-    go true e =
-        let l = ltb-true _ _ e in
-        let n = b.outputs in
-        let inside : o < t.meaning.outputs = omega arith in
-        let a = b.accounts no_account o inside in
-        let total : before.spent + cost (account_of before o) ≡ spent lines + (account t).cost o = ap₂ ◌+◌ b.spends (ap₂ ◌*◌ a.priced a.errors) in
-        let small = b.cheap o inside in
-        let within = k.within in
-        let limit = b.limited in
-        let excess : min (before.spent + cost (account_of before o) - before.limit) 4294967295 ≡ spent lines + (account t).cost o - t.limit = omega arith in
-        let body : take_body (account_of before o).taken (before.spent + cost (account_of before o)) before.limit (min (before.spent + cost (account_of before o) - before.limit) 4294967295)
-        ≡ take_body (taken lines o) (spent lines + (account t).cost o) t.limit (spent lines + (account t).cost o - t.limit)
-        = take_bodies _ _ _ _ _ _ _ _ a.moved total limit excess in
-        cond-true _ _ _ e ∙ body ∙ sym (cond-true _ _ _ (ap (ltb o) (sym b.outputs) ∙ e))
+take_same t lines before o b k =
+    rw b.outputs
+    (inside_alone o t.meaning.outputs _ _ _
+    (λ inside.
+    let a = b.accounts no_account o inside in
+    let held = a.moved in
+    let total : before.spent + cost (account_of before o) ≡ spent lines + (account t).cost o = ap₂ ◌+◌ b.spends (ap₂ ◌*◌ a.priced a.errors) in
+    let small = b.cheap o inside in
+    let within = k.within in
+    let limit = b.limited in
+    let excess : min (before.spent + cost (account_of before o) - before.limit) 4294967295 ≡ spent lines + (account t).cost o - t.limit = omega arith in
+    cc))
 
 -- the ledger's answer to a back is the rules'
 back_same : (t : Terms) (lines : List Line) (before : Ledger) (o : ℕ) → Booked t lines before
     → back_answer before o ≡ decided (account t) lines (Back o)
-back_same t lines before o b = go (ltb o (length (vec_items before.accounts))) refl
-  where
-    go : (inside : Bool) → ltb o (length (vec_items before.accounts)) ≡ inside → back_answer before o ≡ decided (account t) lines (Back o)
-    go false e = cond-false _ _ _ e ∙ sym (cond-false _ _ _ (ap (ltb o) (sym b.outputs) ∙ e))
-    go true e =
-        let l = ltb-true _ _ e in
-        let n = b.outputs in
-        let inside : o < t.meaning.outputs = omega arith in
-        let a = b.accounts no_account o inside in
-        let left : before.spent - cost (account_of before o) ≡ spent lines - (account t).cost o = ap₂ ◌-◌ b.spends (ap₂ ◌*◌ a.priced a.errors) in
-        cond-true _ _ _ e
-        ∙ ap₂ (λ held s. cond held (PutBack s) (Refused NotTaken)) a.moved left
-        ∙ sym (cond-true _ _ _ (ap (ltb o) (sym b.outputs) ∙ e))
+back_same t lines before o b =
+    rw b.outputs
+    (inside_alone o t.meaning.outputs _ _ _
+    (λ inside.
+    let a = b.accounts no_account o inside in
+    let held = a.moved in
+    let left : before.spent - cost (account_of before o) ≡ spent lines - (account t).cost o = ap₂ ◌-◌ b.spends (ap₂ ◌*◌ a.priced a.errors) in
+    cc))
 
 -- the ledger after a take
 take_books : (t : Terms) (lines : List Line) (before after : Ledger) (o : ℕ) (answer : Answer) → Booked t lines before

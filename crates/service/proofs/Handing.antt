@@ -3,10 +3,11 @@ use Rattle.std.proofs.Common.{◌≡◌, ℕ, ◌^◌, ◌<◌, Bool, true, fals
 use lib.Count.{ones}
 use Rattle.std.proofs.lemmas.List.{take_at}
 use Rattle.std.proofs.lemmas.Bool.{cond-true, cond-false, ltb-true, lt-ltb}
+use Rattle.std.proofs.lemmas.Bool.Decides.{nat_tests}
 use Rattle.refusal.specs.declared.table.Refusal.{Refusal}
-use Rattle.refusal.specs.declared.table.Refusal.TheVariants.{NoOutput, NoRow, NodesShort}
+use Rattle.refusal.specs.declared.table.Refusal.TheVariants.{NoOutput, NodesShort}
 use Rattle.design.specs.declared.size.Size.{Size}
-use Rattle.design.specs.Meaning.{at_row}
+use Rattle.design.specs.Meaning.{at_row, sized}
 use Rattle.diagram.specs.declared.node.Node.{Node}
 use Rattle.symmetric.specs.Vectors.{value, held}
 use Rattle.symmetric.specs.Nearest.{bits}
@@ -16,18 +17,12 @@ use Rattle.drawing.specs.Reduced.{marked}
 use Rattle.commands.specs.declared.command.Line.{Line}
 use Rattle.commands.specs.Rules.{taken}
 use Rattle.rules.specs.declared.call.Call.TheVariants.{Read, Draw}
-use Rattle.rules.specs.Rules.{Terms, marks, draws, reply, drawing, in_room}
+use Rattle.rules.specs.Rules.{Terms, marks, draws, refused, reply, drawing, in_room}
 use Rattle.service.specs.declared.account.Account.{Account}
 use Rattle.service.specs.declared.ledger.Ledger.{Ledger}
 use Rattle.service.specs.Books.{no_account, account_of, account_at}
 use Rattle.service.specs.Booked.{Accounted, Booked}
 use Rattle.service.specs.Replies.{said_drawn, lent_after}
-
-not_refused : {X : Type 0} (x : X) (why : Refusal) → ◌≡◌ {A = Result X Refusal} (Ok x) (Err why) → ⊥
-not_refused x why e = let z : ◌≡◌ {A = ℕ} 0 1 = cc in omega arith
-
-same_ok : {X : Type 0} (x y : X) → ◌≡◌ {A = Result X Refusal} (Ok x) (Ok y) → x ≡ y
-same_ok x y e = cc
 
 -- an account that is found is that of an output that is there
 pub account_told : (t : Terms) (lines : List Line) (ledger : Ledger) (o : ℕ) (a : Account) → Booked t lines ledger → Ok a ≡ account_at ledger o
@@ -35,25 +30,21 @@ pub account_told : (t : Terms) (lines : List Line) (ledger : Ledger) (o : ℕ) (
 account_told t lines ledger o a b e = go (ltb o (length (vec_items ledger.accounts))) refl
   where
     go : (inside : Bool) → ltb o (length (vec_items ledger.accounts)) ≡ inside → (o < t.meaning.outputs) × Accounted t lines o a
-    go false i = absurd (not_refused a NoOutput (e ∙ cond-false (ltb o (length (vec_items ledger.accounts))) (Ok (account_of ledger o)) (Err NoOutput) i))
+    go false i = let f = e ∙ cond-false (ltb o (length (vec_items ledger.accounts))) (Ok (account_of ledger o)) (Err NoOutput) i in absurd cc
     go true i =
         let l = ltb-true _ _ i in
         let n = b.outputs in
         let inside : o < t.meaning.outputs = omega arith in
-        let same : a ≡ account_of ledger o = same_ok _ _ (e ∙ cond-true (ltb o (length (vec_items ledger.accounts))) (Ok (account_of ledger o)) (Err NoOutput) i) in
+        let f = e ∙ cond-true (ltb o (length (vec_items ledger.accounts))) (Ok (account_of ledger o)) (Err NoOutput) i in
+        let same : a ≡ account_of ledger o = cc in
         (inside, rw same (b.accounts no_account o inside))
 
 -- a row that is not refused is there
 pub row_told : (size : Size) (o r : ℕ) → ◌≡◌ {A = Result (Unit {0}) Refusal} (Ok tt) (at_row size o r tt) → r < 2 ^ size.inputs
-row_told size o r e = go (ltb o size.outputs) (ltb r (2 ^ size.inputs)) refl refl
-  where
-    go : (there row : Bool) → ltb o size.outputs ≡ there → ltb r (2 ^ size.inputs) ≡ row → r < 2 ^ size.inputs
-    go there true p q = ltb-true _ _ q
-    go true false p q = absurd (not_refused {X = Unit {0}} tt NoRow (e ∙ cond-true (ltb o size.outputs) (cond (ltb r (2 ^ size.inputs)) (Ok tt) (Err NoRow)) (Err NoOutput) p ∙ cond-false (ltb r (2 ^ size.inputs)) (Ok tt) (Err NoRow) q))
-    go false false p q = absurd (not_refused {X = Unit {0}} tt NoOutput (e ∙ cond-false (ltb o size.outputs) (cond (ltb r (2 ^ size.inputs)) (Ok tt) (Err NoRow)) (Err NoOutput) p))
+row_told size o r e = grind (arith, nat_tests)
 
 -- the mark of a taken output
-pub taken_read : (t : Terms) (lines : List Line) (o r : ℕ) (a : Account) (passes : Bool) → o < t.meaning.outputs → Accounted t lines o a → a.taken ≡ true
+taken_read : (t : Terms) (lines : List Line) (o r : ℕ) (a : Account) (passes : Bool) → o < t.meaning.outputs → Accounted t lines o a → a.taken ≡ true
     → r < 2 ^ t.meaning.inputs → value a.vector.bits (ones r) ≡ passes → marks (marked passes) ≡ reply t lines (Read o r)
 taken_read t lines o r a passes inside h held_out row e =
     let same : a.vector.bits ≡ bits t.meaning o = ap (λ v. v.bits) h.vector in
@@ -61,19 +52,27 @@ taken_read t lines o r a passes inside h held_out row e =
     ∙ ap marks (sym (cond-true (taken lines o) _ (t.meaning.mark o r) (sym h.moved ∙ held_out)))
     ∙ sym (cond-true _ _ _ (lt-ltb _ _ inside) ∙ cond-true _ _ _ (lt-ltb _ _ row))
 
+-- of the account that was found, at a row that was not refused
+pub read_told : (t : Terms) (lines : List Line) (ledger : Ledger) (o r : ℕ) (a : Account) (size : Size) (passes : Bool) → Booked t lines ledger → Ok a ≡ account_at ledger o
+    → a.taken ≡ true → size ≡ sized t.meaning → ◌≡◌ {A = Result (Unit {0}) Refusal} (Ok tt) (at_row size o r tt) → value a.vector.bits (ones r) ≡ passes
+    → marks (marked passes) ≡ reply t lines (Read o r)
+read_told t lines ledger o r a size passes b found held_out q there e =
+    let p = account_told t lines ledger o a b found in
+    let row = rw (ap (λ (s : Size). s.inputs) q) at (row_told size o r there) in
+    taken_read t lines o r a passes p.0 p.1 held_out row e
+
+-- the drawing in a buffer, and what it says
 draw_said : (d : Drawing) (buffer after : List Node) (r : Result Drawn Refusal) → r ≡ draw_answer d (length buffer) → after ≡ drawn_over d buffer
     → said_drawn r after ≡ in_room d (length buffer)
-draw_said d buffer after r answer over = go (ltb (length buffer) (length d.nodes)) refl
+draw_said d buffer after r answer over = ap₂ said_drawn answer over ∙ go (ltb (length buffer) (length d.nodes))
   where
-    go : (short : Bool) → ltb (length buffer) (length d.nodes) ≡ short → said_drawn r after ≡ in_room d (length buffer)
-    go true s =
-        ap (λ x. said_drawn x after) (answer ∙ cond-true (ltb (length buffer) (length d.nodes)) (Err (NodesShort (length d.nodes))) (Ok (record { count = length d.nodes; root = d.root })) s)
-        ∙ sym (cond-true _ _ _ s)
-    go false s =
-        let e : after ≡ d.nodes ++ drop (length d.nodes) buffer = over ∙ cond-false (ltb (length buffer) (length d.nodes)) buffer (d.nodes ++ drop (length d.nodes) buffer) s in
-        ap₂ said_drawn (answer ∙ cond-false (ltb (length buffer) (length d.nodes)) (Err (NodesShort (length d.nodes))) (Ok (record { count = length d.nodes; root = d.root })) s) e
-        ∙ ap (draws d.root) (take_at d.nodes (drop (length d.nodes) buffer) (length d.nodes) refl)
-        ∙ sym (cond-false _ _ _ s)
+    rest : List Node
+    rest = drop (length d.nodes) buffer
+
+    go : (short : Bool) → said_drawn (cond short (Err (NodesShort (length d.nodes))) (Ok (record { count = length d.nodes; root = d.root }))) (cond short buffer (d.nodes ++ rest))
+        ≡ cond short (refused (NodesShort (length d.nodes))) (draws d.root d.nodes)
+    go true = refl
+    go false = ap (draws d.root) (take_at d.nodes rest (length d.nodes) refl)
 
 -- the drawing of a taken output, and the buffer after it
 pub taken_draw : (t : Terms) (lines : List Line) (o : ℕ) (a : Account) (buffer after : List Node) (r : Result Drawn Refusal) → o < t.meaning.outputs

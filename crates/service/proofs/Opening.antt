@@ -1,11 +1,12 @@
 -- What is opened: an account for each output, and costs that are sayable.
-use Rattle.std.proofs.Common.{◌≡◌, ℕ, zero, suc, ◌+◌, ◌-◌, ◌*◌, ◌^◌, ◌<◌, ◌≤◌, false, ltb, List, [], ◌∷◌, ◌++◌, length, get_or, Ok, Err, vec_items, Result, sym, refl, ap, ◌∙◌, ⊎_elim, mul-le-mul, arith, pow_mono}
+use Rattle.std.proofs.Common.{◌≡◌, ℕ, zero, suc, ◌+◌, ◌-◌, ◌*◌, ◌^◌, ◌<◌, ◌≤◌, false, ltb, List, [], ◌∷◌, ◌++◌, length, get_or, Ok, Err, vec_items, sym, refl, ap, ◌∙◌, ⊎_elim, mul-le-mul, arith, pow_mono}
 use Rattle.std.proofs.lemmas.List.{get_or_at, get_or_append_left}
 use Rattle.std.proofs.lemmas.Bool.{cases_lt, cond-true, cond-false, lt-ltb, le-ltb}
 use Rattle.refusal.specs.declared.table.Refusal.{Refusal}
 use Rattle.refusal.specs.declared.table.Refusal.TheVariants.{NoOutput, CostTooLarge}
 use Rattle.rows.specs.Rows.{sum_below}
-use Rattle.design.specs.Meaning.{Meaning, Sound}
+use Rattle.design.specs.declared.size.Size.{Size}
+use Rattle.design.specs.Meaning.{Meaning, Sound, sized}
 use Rattle.symmetric.specs.declared.found.Nearest.{Nearest}
 use Rattle.symmetric.specs.Vectors.{held}
 use Rattle.symmetric.specs.Nearest.{Found, told_nearest, nearest_to, bits, wrong}
@@ -42,6 +43,10 @@ costs_sayable t sound fine =
     let small = costs_small t.meaning.outputs (account t).cost (λ o. cost_small t o sound fine) in
     omega arith
 
+-- prices that the code passes
+pub passed : (m : Meaning) (prices : List ℕ) (size : Size) → Ok tt ≡ priced size.outputs prices → size ≡ sized m → priced m.outputs prices ≡ Ok tt
+passed m prices size e q = sym (e ∙ ap (λ (s : Size). priced s.outputs prices) q)
+
 -- and the prices alone decide
 pub prices_decide : (t : Terms) → Sound t.meaning → priced t.meaning.outputs t.prices ≡ Ok tt → opened t ≡ Ok tt
 prices_decide t sound fine =
@@ -50,20 +55,16 @@ prices_decide t sound fine =
 pub prices_refuse : (t : Terms) (why : Refusal) → priced t.meaning.outputs t.prices ≡ Err why → opened t ≡ Err why
 prices_refuse t why e = rw e refl
 
-same_found : (x y : Found) → ◌≡◌ {A = Result Found Refusal} (Ok x) (Ok y) → x ≡ y
-same_found x y e = cc
-
 -- what is found of an output that is there
 pub found_told : (m : Meaning) (o : ℕ) (n : Nearest) → o < m.outputs → told_nearest (Ok n) ≡ nearest_to m o
     → (held n.vector ≡ record { inputs = m.inputs; bits = bits m o }) × (n.wrong ≡ wrong m o)
 found_told m o n inside e =
-    let f = same_found _ _ (e ∙ cond-true (ltb o m.outputs) (Ok (record { vector = record { inputs = m.inputs; bits = bits m o }; wrong = wrong m o })) (Err NoOutput) (lt-ltb _ _ inside)) in
-    (ap (λ x. x.vector) f, ap (λ x. x.wrong) f)
+    let f = e ∙ cond-true (ltb o m.outputs) (Ok (record { vector = record { inputs = m.inputs; bits = bits m o }; wrong = wrong m o })) (Err NoOutput) (lt-ltb _ _ inside) in
+    let same : ◌≡◌ {A = Found} (record { vector = held n.vector; wrong = n.wrong }) (record { vector = record { inputs = m.inputs; bits = bits m o }; wrong = wrong m o }) = cc in
+    (ap (λ x. x.vector) same, ap (λ x. x.wrong) same)
 
 pub never_refused : (m : Meaning) (o : ℕ) (why : Refusal) → o < m.outputs → told_nearest (Err why) ≡ nearest_to m o → ⊥
-never_refused m o why inside e =
-    let f = e ∙ cond-true _ _ _ (lt-ltb _ _ inside) in
-    let z : ◌≡◌ {A = ℕ} 0 1 = cc in omega arith
+never_refused m o why inside e = let f = e ∙ cond-true _ _ _ (lt-ltb _ _ inside) in cc
 
 pub nothing_taken : (o : ℕ) → taken [] o ≡ false
 unfolding taken

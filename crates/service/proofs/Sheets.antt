@@ -14,7 +14,6 @@ use Rattle.burn.specs.declared.entry.Entry.{Entry}
 use Rattle.burn.specs.declared.sheet.Sheet.{Sheet}
 use Rattle.burn.specs.Files.{Contents, no_entry, checked, told}
 use Rattle.burn.specs.Rules.{within, vector_fits, wrong_fits, entry_keeps, entries_keep, cost, costs}
-use Rattle.burn.proofs.Loads.{no_value}
 use Rattle.burn.proofs.RoundTrip.{checked_kept}
 use Rattle.commands.specs.declared.command.Line.{Line}
 use Rattle.commands.specs.Rules.{taken, spent}
@@ -35,7 +34,7 @@ Priced t = (o : ℕ) → o < t.meaning.outputs → (1 ≤ price t o) × (price t
 
 prices_passed : (r : Result (Unit {0}) Refusal) (total : ℕ) → costed r total ≡ Ok tt → r ≡ Ok tt
 prices_passed (Ok tt) total q = refl
-prices_passed (Err why) total q = absurd (no_value q)
+prices_passed (Err why) total q = cc
 
 opened_priced : (t : Terms) → opened t ≡ Ok tt → Priced t
 opened_priced t q o h =

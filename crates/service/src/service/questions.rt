@@ -20,13 +20,10 @@ impl Ledger {
     fn taken_set(&self) -> u32
         ensures { result ≡ flags self.now.accounts.items (length self.now.accounts.items) }
     {
-        let mut set = 0;
-        for (output, account) in self.accounts.iter().enumerate() {
-            if account.taken {
-                set += 1 << output;
-            }
-        }
-        set
+        self.accounts
+            .iter()
+            .rev()
+            .fold(0, |set, account| (set << 1) | u32::from(account.taken))
     }
 }
 

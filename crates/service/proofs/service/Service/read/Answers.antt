@@ -5,7 +5,7 @@ use Rattle.std.proofs.lemmas.Bool.{eq-eqb, ne_eqb}
 use Rattle.std.proofs.lemmas.Nat.{ones-le}
 use Rattle.symmetric.specs.Vectors.{value}
 use Rattle.service.specs.Holds.{terms_of, lines_of}
-use Rattle.service.proofs.Handing.{account_told, row_told, taken_read}
+use Rattle.service.proofs.Handing.{row_told, read_told}
 use Rattle.service.proofs.service.Service.read.Goals as goal
 
 -- a row that is there has no more ones than there are inputs, which are 16 at most
@@ -20,19 +20,13 @@ overflow_shr-bits g c =
 pub returns-then-bits-row-eq1 : goal.returns-then-bits-row-eq1
 returns-then-bits-row-eq1 g c =
     let s = c.args.self.now in
-    let p = account_told (terms_of s) (lines_of s) _ _ _ s.stands.books c.in_ok-account.ensures.answer in
-    let row = row_told c.size.result c.args.output c.args.row c.in_ok-check_row.ensures in
-    let there = rw (ap (λ z. z.inputs) c.size.ensures) at row in
     let one : value c.bits.result (ones c.args.row) ≡ true = eq-eqb _ _ (sym (and_mask (c.bits.result / 2 ^ ones c.args.row) 1) ∙ c.if-bits-row-eq1.true) in
-    taken_read (terms_of s) (lines_of s) c.args.output c.args.row c.in_ok-account.account true p.0 p.1 c.if-not-account.false there
+    read_told (terms_of s) (lines_of s) s.ledger c.args.output c.args.row _ c.size.result true s.stands.books c.in_ok-account.ensures.answer c.if-not-account.false c.size.ensures c.in_ok-check_row.ensures
     (ap (λ b. value b (ones c.args.row)) (sym c.bits.ensures) ∙ one)
 
 pub returns : goal.returns
 returns g c =
     let s = c.args.self.now in
-    let p = account_told (terms_of s) (lines_of s) _ _ _ s.stands.books c.in_ok-account.ensures.answer in
-    let row = row_told c.size.result c.args.output c.args.row c.in_ok-check_row.ensures in
-    let there = rw (ap (λ z. z.inputs) c.size.ensures) at row in
     let one : value c.bits.result (ones c.args.row) ≡ false = ne_eqb _ _ (λ e. c.if-bits-row-eq1.false (and_mask (c.bits.result / 2 ^ ones c.args.row) 1 ∙ e)) in
-    taken_read (terms_of s) (lines_of s) c.args.output c.args.row c.in_ok-account.account false p.0 p.1 c.if-not-account.false there
+    read_told (terms_of s) (lines_of s) s.ledger c.args.output c.args.row _ c.size.result false s.stands.books c.in_ok-account.ensures.answer c.if-not-account.false c.size.ensures c.in_ok-check_row.ensures
     (ap (λ b. value b (ones c.args.row)) (sym c.bits.ensures) ∙ one)
