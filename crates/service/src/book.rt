@@ -5,7 +5,6 @@ ghost use Rattle.service.specs.Books.{account_at, with_taken, answered, take_ans
 
 use crate::account::Account;
 use crate::ledger::Ledger;
-use commands::Answer;
 use refusal::Refusal;
 
 impl Account {
@@ -72,35 +71,27 @@ impl Ledger {
         self.spent = spent;
     }
 
-    // Takes an output, or refuses to.
-    pub(crate) fn take(&mut self, output: u32) -> Answer
-        ensures answer { result ≡ take_answer self.old output }
-        ensures accounts { self.new.accounts.items ≡ accounts_after self.old output result }
-        ensures spent { self.new.spent ≡ spent_after self.old result }
+    // Takes an output, and tells what is then spent.
+    pub(crate) fn take(&mut self, output: u32) -> Result<u32, Refusal>
+        ensures answer { answered Taken result ≡ take_answer self.old output }
+        ensures accounts { self.new.accounts.items ≡ accounts_after self.old output (answered Taken result) }
+        ensures spent { self.new.spent ≡ spent_after self.old (answered Taken result) }
         ensures limit { self.new.limit ≡ self.old.limit }
     {
-        match self.spent_with(output) {
-            Ok(spent) => {
-                self.enter(output, true, spent);
-                Answer::Taken { spent }
-            }
-            Err(refusal) => Answer::Refused(refusal),
-        }
+        let spent = self.spent_with(output)?;
+        self.enter(output, true, spent);
+        Ok(spent)
     }
 
-    // Puts an output back, or refuses to.
-    pub(crate) fn back(&mut self, output: u32) -> Answer
-        ensures answer { result ≡ back_answer self.old output }
-        ensures accounts { self.new.accounts.items ≡ accounts_after self.old output result }
-        ensures spent { self.new.spent ≡ spent_after self.old result }
+    // Puts an output back, and tells what is then spent.
+    pub(crate) fn back(&mut self, output: u32) -> Result<u32, Refusal>
+        ensures answer { answered PutBack result ≡ back_answer self.old output }
+        ensures accounts { self.new.accounts.items ≡ accounts_after self.old output (answered PutBack result) }
+        ensures spent { self.new.spent ≡ spent_after self.old (answered PutBack result) }
         ensures limit { self.new.limit ≡ self.old.limit }
     {
-        match self.spent_without(output) {
-            Ok(spent) => {
-                self.enter(output, false, spent);
-                Answer::PutBack { spent }
-            }
-            Err(refusal) => Answer::Refused(refusal),
-        }
+        let spent = self.spent_without(output)?;
+        self.enter(output, false, spent);
+        Ok(spent)
     }
 }

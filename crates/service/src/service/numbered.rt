@@ -18,8 +18,12 @@ impl Ledger {
         ensures { Decided command self.old result self.new }
     {
         match command {
-            Command::Take { output } => self.take(output),
-            Command::Back { output } => self.back(output),
+            Command::Take { output } => self
+                .take(output)
+                .map_or_else(Answer::Refused, |spent| Answer::Taken { spent }),
+            Command::Back { output } => self
+                .back(output)
+                .map_or_else(Answer::Refused, |spent| Answer::PutBack { spent }),
         }
     }
 }
