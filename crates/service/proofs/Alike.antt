@@ -94,9 +94,11 @@ stands_by s t lines a e = record {
   kept = rw (← e) (kept_prices t.meaning t.limit (terms_of s).prices t.prices a.same (lines_of s) (subst (λ (u : Terms). Kept (account u) (lines_of s)) a.rest s.stands.kept));
 }
 
--- what a service answers by its own terms and lines, it answers by any that it stands by
+-- a service stands by its own terms, and answers by any that it stands by
 pub any_terms : {D : Type 0} {d : _} (s : Service D d) → AnyTerms s
 any_terms s = record {
+  opens = s.stands.opens;
+  own = record { meaning = refl; log = refl; ledger = s.stands.books; kept = s.stands.kept };
   obeyed = λ number command answer after told logs terms-same t lines h.
       let a = alike s t lines h in
       let e = h.log in record {

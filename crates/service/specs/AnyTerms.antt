@@ -12,12 +12,15 @@ use Rattle.commands.specs.Rules.{numbered, logged}
 use Rattle.rules.specs.declared.call.Call.{Call}
 use Rattle.rules.specs.Rules.{Said, account, reply}
 use Rattle.service.specs.declared.service.Service.{Service}
-use Rattle.service.specs.Holds.{terms_of, lines_of, Obeyed}
+use Rattle.service.specs.Opening.{opened}
+use Rattle.service.specs.Holds.{terms_of, lines_of, Holds, Obeyed}
 use Rattle.service.specs.Replies.{lent_after, Replied, DrawnByRules}
 use Rattle.service.specs.Sheets.{sheet_of, Sheeted}
 
--- what a service answers by its own terms and lines, it answers by any that it stands by
+-- a service's own terms can be opened on and it stands by them; what it answers by them, it answers by any that it stands by
 pub record AnyTerms {D : Type 0} {d : _} (s : Service D d) : Type 0 where
+  pub opens : opened (terms_of s) ≡ Ok tt
+  pub own : Holds d.meaning (terms_of s) (lines_of s) s
   pub obeyed :
       (number : ℕ) (command : Command) (answer : Answer) (after : Service D d) → answer ≡ numbered (account (terms_of s)) (lines_of s) number command
       → lines_of after ≡ logged (account (terms_of s)) (lines_of s) number command → terms_of after ≡ terms_of s

@@ -12,7 +12,7 @@ pub fn prices_are_judged() -> u8
     0
 }
 
-// What a service answers by its own terms and lines, it answers by any that it stands by.
+// A service stands by its own terms, and what it answers by them, it answers by any that it stands by.
 pub fn any_terms_hold<D: Design>(_service: &Service<D>) -> u8
     ensures { AnyTerms _service.now }
 {
