@@ -1,127 +1,116 @@
 // Drawings, each read back at every row.
-use diagram::Node;
+use diagram::{Node, Target};
 use drawing::draw;
-use std::io;
+use samples::{Outcome, value_at};
+use std::iter::Sum;
+use std::ops::Add;
+use std::{fmt, io};
 use symmetric::ValueVector;
 
-// How much was drawn and read back, and at how many rows the reading differs from the vector's value.
-#[derive(Clone, Copy)]
-struct Outcome {
+// How much was drawn, and the rows at which the reading was compared with the vector's value.
+#[derive(Clone, Copy, Default)]
+struct Drawings {
     drawn: u32,
     nodes: usize,
-    rows: u32,
-    differ: u32,
+    rows: Outcome,
 }
 
-const NOTHING: Outcome = Outcome {
-    drawn: 0,
-    nodes: 0,
-    rows: 0,
-    differ: 0,
-};
+impl Add for Drawings {
+    type Output = Drawings;
 
-impl Outcome {
-    // Both outcomes together.
-    fn and(self, other: Outcome) -> Outcome {
-        Outcome {
+    fn add(self, other: Drawings) -> Drawings {
+        Drawings {
             drawn: self.drawn.saturating_add(other.drawn),
             nodes: self.nodes.saturating_add(other.nodes),
-            rows: self.rows.saturating_add(other.rows),
-            differ: self.differ.saturating_add(other.differ),
+            rows: self.rows + other.rows,
         }
     }
 }
 
-// Where a row goes on from a reference; a mark leads to itself.
-fn next(nodes: &[Node], reference: u32, row: u32) -> u32 {
-    if reference < 3 {
-        return reference;
-    }
-    match nodes.get(reference as usize - 3) {
-        Some(node) if node.level < 32 && (row >> node.level) % 2 == 1 => node.high,
-        Some(node) => node.low,
-        None => reference,
+impl Sum<Drawings> for Drawings {
+    fn sum<I: Iterator<Item = Drawings>>(iter: I) -> Drawings {
+        iter.fold(Drawings::default(), |total, one| total + one)
     }
 }
 
-// The reference that a row is led to: a mark, after at most one step for each input.
-fn read(nodes: &[Node], root: u32, row: u32) -> u32 {
-    let mut reference = root;
+impl fmt::Display for Drawings {
+    fn fmt<W: fmt::Write>(&self, f: &mut fmt::Formatter<W>) -> fmt::Result {
+        let Drawings { drawn, nodes, rows } = *self;
+        let Outcome { compared, differ } = rows;
+        write!(
+            f,
+            "{drawn} drawn, {nodes} nodes, {compared} rows read back, {differ} differ"
+        )
+    }
+}
+
+// Where a row goes on from a node.
+fn branch(node: Node, row: u32) -> u32 {
+    match row.checked_shr(node.level) {
+        Some(rest) if rest % 2 == 1 => node.high,
+        _ => node.low,
+    }
+}
+
+// What a row is led to: a mark, after at most one step for each input.
+fn read(nodes: &[Node], root: u32, row: u32) -> Target {
+    let mut target = Target::from(root);
     for _ in 0..16 {
-        reference = next(nodes, reference, row);
+        if let Target::Node(place) = target
+            && let Some(node) = nodes.get(place)
+        {
+            target = Target::from(branch(*node, row));
+        }
     }
-    reference
+    target
 }
 
-// Draws one vector and reads the drawing at every row.
-fn read_back(inputs: u32, bits: u32) -> Outcome {
-    let mut buffer = [Node {
-        level: 0,
-        low: 0,
-        high: 0,
-    }; 136];
+// Draws one vector and reads the drawing at every row. The value 0 or 1 at a row is also the reference to its mark.
+fn read_back(inputs: u32, bits: u32) -> Drawings {
     let Some(vector) = ValueVector::new(inputs, bits) else {
-        return NOTHING;
+        return Drawings::default();
     };
+    let mut buffer = [Node::default(); 136];
     let Ok(drawn) = draw(&vector, &mut buffer) else {
-        return Outcome {
+        return Drawings {
             drawn: 1,
             nodes: 0,
-            rows: 0,
-            differ: 1,
+            rows: Outcome {
+                compared: 0,
+                differ: 1,
+            },
         };
     };
-    let mut outcome = Outcome {
+    let rows = (0u32..1 << vector.inputs())
+        .map(|row| {
+            Outcome::from(read(&buffer, drawn.root, row) == Target::from(value_at(bits, row)))
+        })
+        .sum();
+    Drawings {
         drawn: 1,
         nodes: drawn.count,
-        rows: 0,
-        differ: 0,
-    };
-    for row in 0u32..65536 {
-        if inputs > 16 || row >= 1 << inputs {
-            break;
-        }
-        let weight = row.count_ones();
-        let value = if weight > 16 { 0 } else { (bits >> weight) % 2 };
-        let same = read(&buffer, drawn.root, row) == value;
-        let differ = if same { 0 } else { 1 };
-        outcome = outcome.and(Outcome {
-            drawn: 0,
-            nodes: 0,
-            rows: 1,
-            differ,
-        });
+        rows,
     }
-    outcome
 }
 
-fn say(rt: &HostRuntime, name: &str, outcome: Outcome) -> io::Result<()> {
-    let drawn = outcome.drawn;
-    let nodes = outcome.nodes;
-    let rows = outcome.rows;
-    let differ = outcome.differ;
-    println!(rt; "{name}: {drawn} drawn, {nodes} nodes, {rows} rows read back, {differ} differ")
-}
-
-// Every vector of so many inputs.
-fn every(inputs: u32) -> Outcome {
-    let mut outcome = NOTHING;
-    for bits in 0u32..32 {
-        outcome = outcome.and(read_back(inputs, bits));
-    }
-    outcome
+// Every vector of so many inputs; read_back passes over the numbers that are none.
+fn every(inputs: u32) -> Drawings {
+    (0..32).map(|bits| read_back(inputs, bits)).sum()
 }
 
 // All small vectors, and some of 16 inputs.
-pub fn draw_all(rt: &HostRuntime) -> io::Result<()> {
-    let mut small = NOTHING;
-    for inputs in 1u32..5 {
-        small = small.and(every(inputs));
+pub(crate) fn draw_all(rt: &HostRuntime) -> io::Result<()> {
+    let small: Drawings = (1..5).map(every).sum();
+    println!(rt; "all vectors of 1 to 4 inputs: {small}")?;
+    let large = [
+        ("parity", 0xaaaa),
+        ("majority", 0x1fe00),
+        ("weight 8 alone", 0x100),
+        ("weight 0 alone", 1),
+        ("all", 0x1ffff),
+    ];
+    for (name, bits) in large {
+        println!(rt; "{name} at 16 inputs: {}", read_back(16, bits))?;
     }
-    say(rt, "all vectors of 1 to 4 inputs", small)?;
-    say(rt, "parity at 16 inputs", read_back(16, 0xaaaa))?;
-    say(rt, "majority at 16 inputs", read_back(16, 0x1fe00))?;
-    say(rt, "weight 8 alone at 16 inputs", read_back(16, 0x100))?;
-    say(rt, "weight 0 alone at 16 inputs", read_back(16, 1))?;
-    say(rt, "all at 16 inputs", read_back(16, 0x1ffff))
+    Ok(())
 }

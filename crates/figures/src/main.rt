@@ -7,35 +7,40 @@ mod known;
 mod makes;
 mod sending;
 
-use compare::{Outcome, compare};
+use compare::compare;
+use samples::{Outcome, small_cover, small_diagram};
 
 // Every make, and pairs of them.
 fn all_makes(rt: &HostRuntime) -> anyhow::Result<Outcome> {
     let heap = rt.alloc();
-    let mut total = compare(rt, "cover A", &makes::cover_a(heap)?)?;
-    total = total.and(compare(rt, "diagram B", &makes::diagram_b(heap)?)?);
-    total = total.and(compare(rt, "A and B", &makes::pair(heap)?)?);
-    total = total.and(compare(rt, "A and A and B", &makes::nested(heap)?)?);
-    total = total.and(compare(rt, "skipped levels", &makes::skipping(heap)?)?);
-    total = total.and(compare(rt, "parity of 16", &makes::parity(heap)?)?);
-    Ok(total.and(compare(rt, "blocks of 16", &makes::blocks(heap)?)?))
+    let outcomes = [
+        compare(rt, "cover A", &small_cover(heap)?)?,
+        compare(rt, "diagram B", &small_diagram(heap)?)?,
+        compare(rt, "A and B", &makes::pair(heap)?)?,
+        compare(rt, "A and A and B", &makes::nested(heap)?)?,
+        compare(rt, "skipped levels", &makes::skipping(heap)?)?,
+        compare(rt, "parity of 16", &makes::parity(heap)?)?,
+        compare(rt, "blocks of 16", &makes::blocks(heap)?)?,
+    ];
+    Ok(outcomes.into_iter().sum())
 }
 
 // Tables at the edges of the nearest function.
 fn all_edges(rt: &HostRuntime) -> anyhow::Result<Outcome> {
     let heap = rt.alloc();
-    let mut total = compare(rt, "ties at every weight", &makes::ties(heap)?)?;
-    total = total.and(compare(rt, "all on", &makes::all_of(heap, 16, 1)?)?);
-    total = total.and(compare(rt, "all off", &makes::none_of(heap, 16)?)?);
-    total = total.and(compare(rt, "all free", &makes::all_of(heap, 16, 2)?)?);
-    total = total.and(compare(rt, "one input on", &makes::all_of(heap, 1, 1)?)?);
-    Ok(total.and(compare(rt, "one input free", &makes::all_of(heap, 1, 2)?)?))
+    let outcomes = [
+        compare(rt, "ties at every weight", &makes::ties(heap)?)?,
+        compare(rt, "all on", &makes::all_of(heap, 16, 1)?)?,
+        compare(rt, "all off", &makes::none_of(heap, 16)?)?,
+        compare(rt, "all free", &makes::all_of(heap, 16, 2)?)?,
+        compare(rt, "one input on", &makes::all_of(heap, 1, 1)?)?,
+        compare(rt, "one input free", &makes::all_of(heap, 1, 2)?)?,
+    ];
+    Ok(outcomes.into_iter().sum())
 }
 
 fn main(rt: HostRuntime) -> anyhow::Result<()> {
-    let total = all_makes(&rt)?.and(all_edges(&rt)?);
-    let compared = total.compared;
-    let differ = total.differ;
+    let Outcome { compared, differ } = all_makes(&rt)? + all_edges(&rt)?;
     println!(rt; "{compared} tallies compared with a count over all rows, {differ} differ")?;
     drawn::draw_all(&rt)?;
     sending::open_all(&rt)?;

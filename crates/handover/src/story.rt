@@ -1,35 +1,16 @@
 // One handover, call by call.
-use crate::{camera, words};
-use anyhow::anyhow;
-use commands::Answer;
-use cover::Cover;
-use design::Joined;
-use diagram::{Diagram, Node};
+use crate::camera::{Camera, both};
+use diagram::Node;
+use drawing::Drawn;
 use refusal::Refusal;
+use report::report_of;
 use rules::Call;
 use service::{Service, run};
-use std::alloc::Global;
+use std::io;
 
-pub type Camera = Joined<Cover, Diagram>;
+pub(crate) const LIMIT: u32 = 200;
 
-pub const LIMIT: u32 = 200;
-
-pub const PRICES: [u32; 2] = [2, 1];
-
-// A refusal where none is expected ends the program.
-pub fn expected<T>(made: Result<T, Refusal>) -> anyhow::Result<T> {
-    match made {
-        Ok(value) => Ok(value),
-        Err(_) => Err(anyhow!("refused")),
-    }
-}
-
-pub fn camera_of(heap: Global) -> anyhow::Result<Camera> {
-    expected(Joined::new(
-        expected(camera::furrow(heap))?,
-        expected(camera::left_edge(heap))?,
-    ))
-}
+pub(crate) const PRICES: [u32; 2] = [2, 1];
 
 // The calls of the whole list.
 const CALLS: [Call; 14] = [
@@ -80,62 +61,57 @@ const CALLS: [Call; 14] = [
 ];
 
 // The whole list through one call.
-pub fn run_all(rt: &HostRuntime) -> anyhow::Result<()> {
-    let replies = expected(run(rt.alloc(), camera_of(rt.alloc())?, LIMIT, &PRICES, &CALLS))?;
-    for (call, reply) in CALLS.iter().zip(replies.iter()) {
-        words::say_call(rt, *call)?;
-        words::say_reply(rt, reply)?;
+pub(crate) fn run_all(rt: &HostRuntime) -> anyhow::Result<()> {
+    let heap = rt.alloc();
+    let replies = run(heap, both(heap)?, LIMIT, &PRICES, &CALLS)?;
+    for (call, reply) in CALLS.iter().zip(&replies) {
+        println!(rt; "{call}: {reply}")?;
     }
     Ok(())
 }
 
 // The lost acknowledgement: the burner repeats its take after the fitter has put the output back.
-pub fn lost_acknowledgement(rt: &HostRuntime, service: &mut Service<Camera>) -> anyhow::Result<()> {
-    print!(rt; "the burner takes output 0 under number 1: ")?;
-    words::say_answer(rt, service.take(1, 0))?;
-    print!(rt; "the fitter puts it back under number 2: ")?;
-    words::say_answer(rt, service.back(2, 0))?;
-    print!(rt; "the burner, not having heard, sends number 1 again: ")?;
-    words::say_answer(rt, service.take(1, 0))?;
-    print!(rt; "it was answered and not obeyed: ")?;
-    words::say_asked(rt, service.ask())?;
-    Ok(())
+pub(crate) fn lost_acknowledgement(
+    rt: &HostRuntime,
+    service: &mut Service<Camera>,
+) -> io::Result<()> {
+    println!(rt;
+        "the burner takes output 0 under number 1: {}",
+        service.take(1, 0)
+    )?;
+    println!(rt;
+        "the fitter puts it back under number 2: {}",
+        service.back(2, 0)
+    )?;
+    println!(rt;
+        "the burner, not having heard, sends number 1 again: {}",
+        service.take(1, 0)
+    )?;
+    println!(rt; "it was answered and not obeyed: {}", service.ask())
+}
+
+// How large a drawing is, or why there is none.
+fn say_drawn(rt: &HostRuntime, room: usize, drawn: Result<Drawn, Refusal>) -> io::Result<()> {
+    match drawn {
+        Ok(drawn) => println!(rt; "drawn into {room} nodes: {drawn}"),
+        Err(refusal) => println!(rt; "drawn into {room} nodes: refused {refusal}"),
+    }
 }
 
 // Output 1 is taken and drawn, in a buffer that is too short and in one that is not.
-pub fn take_and_draw(rt: &HostRuntime, service: &mut Service<Camera>) -> anyhow::Result<()> {
-    print!(rt; "output 1 is taken under number 3: ")?;
-    words::say_answer(rt, service.take(3, 1))?;
-    let blank = Node {
-        level: 0,
-        low: 0,
-        high: 0,
-    };
-    let mut short = [blank; 28];
-    let mut enough = [blank; 40];
-    print!(rt; "drawn into 28 nodes: ")?;
-    match service.draw(1, &mut short) {
-        Ok(drawn) => words::say_drawn(rt, drawn.count, drawn.root)?,
-        Err(refusal) => words::say_refusal(rt, refusal)?,
-    }
-    print!(rt; "drawn into 40 nodes: ")?;
-    match service.draw(1, &mut enough) {
-        Ok(drawn) => words::say_drawn(rt, drawn.count, drawn.root)?,
-        Err(refusal) => words::say_refusal(rt, refusal)?,
-    }
-    Ok(())
+pub(crate) fn take_and_draw(rt: &HostRuntime, service: &mut Service<Camera>) -> io::Result<()> {
+    println!(rt; "output 1 is taken under number 3: {}", service.take(3, 1))?;
+    say_drawn(rt, 28, service.draw(1, &mut [Node::default(); 28]))?;
+    say_drawn(rt, 40, service.draw(1, &mut [Node::default(); 40]))
 }
 
 // The sheet is written, loaded back and listed.
-pub fn burn(rt: &HostRuntime, service: &Service<Camera>) -> anyhow::Result<()> {
-    let sheet = expected(service.sheet(rt.alloc()))?;
+pub(crate) fn burn(rt: &HostRuntime, service: &Service<Camera>) -> anyhow::Result<()> {
     let mut file = [0u8; 4608];
-    let length = expected(sheet.write(&mut file))?;
+    let length = service.sheet(rt.alloc())?.write(&mut file)?;
     println!(rt; "the burn file has {length} bytes; loaded back it lists as")?;
-    if length > 4608 {
-        return Ok(());
+    if let Some(written) = file.get(..length) {
+        rt.print(report_of(rt.alloc(), written)?)?;
     }
-    let text = report::report_of(rt.alloc(), &file[0..length])?;
-    rt.print(text.as_str())?;
     Ok(())
 }

@@ -3,23 +3,16 @@ ghost use Rattle.std.specs.Prelude.{◌≡◌, ◌+◌, ◌*◌, ◌%◌, ◌^�
 
 use design::Tally;
 
-#[derive(Clone, Copy)]
-pub struct Digest {
-    // sums over all outputs and weights
-    pub on: u32,
-    pub free: u32,
-    // the sum over all outputs
-    pub wrong: u32,
-    // of every number in its order
-    pub checksum: u32,
+// The sums of the tallies and of the wrong counts, and a checksum of every number in its order.
+#[derive(Clone, Copy, Default)]
+pub(crate) struct Digest {
+    // over all outputs and weights
+    pub(crate) on: u32,
+    pub(crate) free: u32,
+    // over all outputs
+    pub(crate) wrong: u32,
+    pub(crate) checksum: u32,
 }
-
-pub const BLANK: Digest = Digest {
-    on: 0,
-    free: 0,
-    wrong: 0,
-    checksum: 0,
-};
 
 impl Digest {
     // One number more in the checksum.

@@ -3,8 +3,9 @@ ghost use Rattle.std.specs.Prelude.{◌≤◌};
 
 mod rolls;
 
+// 1 to 16 inputs and 1 to 3 outputs.
 #[derive(Clone, Copy)]
-pub struct Frame {
+pub(crate) struct Frame {
     inputs: u32,
     outputs: u32,
     ghost some_inputs: { 1 ≤ inputs },

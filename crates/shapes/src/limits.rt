@@ -1,5 +1,4 @@
 // Tables at and beyond the limits of their makes.
-use crate::makes::told;
 use cover::{Cover, Cube};
 use design::Joined;
 use diagram::{Diagram, Node};
@@ -28,15 +27,14 @@ fn bare_diagram(heap: Global, inputs: u32, outputs: u32) -> Result<Diagram, Refu
 
 // A cover of so many cubes, none of which meets another.
 fn crowded_cover(heap: Global, count: u16) -> Result<Cover, Refusal> {
-    let mut cubes = Vec::new(heap);
-    for value in 0..count {
-        cubes.push(Cube {
+    let cubes = (0..count)
+        .map(|value| Cube {
             output: 0,
             kind: 1,
             fixed: 8191,
             value,
-        })?;
-    }
+        })
+        .collect(heap)?;
     Cover::new(16, 1, cubes)
 }
 
@@ -51,6 +49,7 @@ fn crowded_diagram(heap: Global, count: usize) -> Result<Diagram, Refusal> {
     Diagram::new(16, 1, nodes, Vec::from_slice(heap, &[3])?)
 }
 
+// Covers at their limits and one past each.
 fn try_covers(rt: &HostRuntime) -> io::Result<()> {
     let heap = rt.alloc();
     say(rt, "cover of 16 inputs", bare_cover(heap, 16, 1))?;
@@ -61,6 +60,7 @@ fn try_covers(rt: &HostRuntime) -> io::Result<()> {
     say(rt, "cover of 4,097 cubes", crowded_cover(heap, 4097))
 }
 
+// The same for diagrams.
 fn try_diagrams(rt: &HostRuntime) -> io::Result<()> {
     let heap = rt.alloc();
     say(rt, "diagram of 16 inputs", bare_diagram(heap, 16, 1))?;
@@ -74,8 +74,8 @@ fn try_diagrams(rt: &HostRuntime) -> io::Result<()> {
 // A cover of 16 inputs joined with a diagram of so many inputs and outputs.
 fn try_pair(rt: &HostRuntime, name: &str, inputs: u32, outputs: u32) -> anyhow::Result<()> {
     let heap = rt.alloc();
-    let first = told(bare_cover(heap, 16, 4))?;
-    let second = told(bare_diagram(heap, inputs, outputs))?;
+    let first = bare_cover(heap, 16, 4)?;
+    let second = bare_diagram(heap, inputs, outputs)?;
     say(rt, name, Joined::new(first, second))?;
     Ok(())
 }
