@@ -1,6 +1,6 @@
 -- A block whose sum, padding and fields were passed is the one that is written of them.
-use Rattle.std.proofs.Common.{◌≡◌, ℕ, zero, suc, ◌+◌, ◌*◌, ◌<◌, ◌≤◌, Bool, true, false, cond, eqb, List, [], ◌∷◌, ◌++◌, length, get_or, take, drop, Ok, Err, sym, refl, ap, ◌∙◌, ⊎_elim, le_trans, add-one, arith}
-use Rattle.std.proofs.lemmas.List.{drop_more, drop_all, drop-drop, length-drop, length-take, length-take-le, get_or-take, get_or-drop, get_or_past, take-append-drop, ext_get_or}
+use Rattle.std.proofs.Common.{◌≡◌, ℕ, zero, suc, ◌+◌, ◌*◌, ◌<◌, ◌≤◌, Bool, true, false, cond, eqb, List, [], ◌∷◌, ◌++◌, length, get_or, take, drop, Ok, Err, sym, refl, ap, ◌∙◌, ⊎_elim, add-one, arith}
+use Rattle.std.proofs.lemmas.List.{drop_more, drop_all, drop-drop, length-drop, length-take-le, get_or-take, get_or-drop, take-append-drop, ext_get_or}
 use Rattle.std.proofs.lemmas.Bool.{eqb-true, cases_lt}
 use Rattle.std.proofs.lemmas.Bool.Decides.{nat_tests}
 use Rattle.refusal.specs.declared.table.Refusal.TheVariants.{BlockSum}
@@ -9,8 +9,9 @@ use Rattle.burn.specs.Files.{Contents, flag, head_block, entry_block, entry_bloc
 use Rattle.burn.specs.declared.entry.Entry.{Entry}
 use Rattle.burn.specs.declared.entry.Head.{Head}
 use Rattle.burn.proofs.Fronts.{length_front}
+use Rattle.burn.proofs.Sums.{bytes_take}
 use Rattle.burn.proofs.Sealed.{bytes_of, front_low, front_high}
-use Rattle.burn.proofs.Loads.{no_value, same_value, then_ok, EntryRead, entry_read_ok, HeadRead, head_read_ok, loaded_ok, counted_ok}
+use Rattle.burn.proofs.Loads.{same_value, then_ok, EntryRead, entry_read_ok, HeadRead, head_read_ok, loaded_ok, counted_ok}
 
 -- four elements, and the rest
 drop_four : (xs : List ℕ) (i : ℕ) → i + 4 ≤ length xs → drop i xs ≡ get_or xs i 0 ∷ get_or xs (i + 1) 0 ∷ get_or xs (i + 2) 0 ∷ get_or xs (i + 3) 0 ∷ drop (i + 4) xs
@@ -44,7 +45,7 @@ summed_ok b xs q = go (eqb (little xs 508) (weighed 1 (take 508 xs))) refl q
   where
     go : (t : Bool) → eqb (little xs 508) (weighed 1 (take 508 xs)) ≡ t → cond t (Ok (tt {0})) (Err (BlockSum b)) ≡ Ok tt → little xs 508 ≡ weighed 1 (take 508 xs)
     go true e p = eqb-true _ _ e
-    go false e p = absurd (no_value p)
+    go false e p = cc
 
 -- a whole block that was passed is closed
 pub block_sealed : (b : ℕ) (xs : List ℕ) → length xs ≡ 512 → Bytes xs → summed b xs ≡ Ok tt → ((k : ℕ) → 12 ≤ k → k < 508 → get_or xs k 0 ≡ 0) → sealed (take 12 xs) ≡ xs
@@ -59,9 +60,7 @@ block_sealed b xs l h s z =
 
 -- the blocks of a file: bytes, and 512 of them
 bytes_block : (file : List ℕ) (b : ℕ) → Bytes file → Bytes (block file b)
-bytes_block file b h k =
-    ⊎_elim (λ w. omega (arith, get_or-take 512 (drop (b * 512) file) k 0 w, get_or-drop (b * 512) file k 0, h (b * 512 + k)))
-    (λ w. omega (arith, get_or_past (block file b) k 0 (le_trans (omega (arith, length-take 512 (drop (b * 512) file))) w))) (cases_lt k 512)
+bytes_block file b h = bytes_take 512 (drop (b * 512) file) (λ k. omega (arith, get_or-drop (b * 512) file k 0, h (b * 512 + k)))
 
 length_block : (file : List ℕ) (b : ℕ) → b * 512 + 512 ≤ length file → length (block file b) ≡ 512
 length_block file b h = length-take-le 512 (drop (b * 512) file) (omega (arith, length-drop (b * 512) file))
@@ -79,12 +78,12 @@ flag_of x h = grind (arith, nat_tests)
 -- the block of an output is the one that is written of it
 pub entry_is : (inputs b : ℕ) (xs : List ℕ) (e : Entry) → length xs ≡ 512 → Bytes xs → summed b xs ≡ Ok tt → EntryRead inputs b xs e → entry_block b e ≡ xs
 entry_is inputs b xs e l h s r =
-    let numbers = bytes4 (little xs 4) ++ bytes4 (little xs 8) in
-    ap (entry_block b) r.is
-    ∙ (ap (λ x. sealed (2 ∷ b ∷ get_or xs 2 0 ∷ x ∷ numbers)) (flag_of (get_or xs 3 0) r.flagged)
-    ∙ (ap (λ x. sealed (x ∷ b ∷ get_or xs 2 0 ∷ get_or xs 3 0 ∷ numbers)) (sym r.kind)
-    ∙ (ap (λ x. sealed (get_or xs 0 0 ∷ x ∷ get_or xs 2 0 ∷ get_or xs 3 0 ∷ numbers)) (sym r.number)
-    ∙ (ap sealed (sym (first_of xs (omega arith) h)) ∙ block_sealed b xs l h s r.padded))))
+    let i = ap (entry_block b) r.is in
+    let f = flag_of (get_or xs 3 0) r.flagged in
+    let k = r.kind in
+    let n = r.number in
+    let t = first_of xs (omega arith) h in
+    let c = block_sealed b xs l h s r.padded in cc
 
 -- so are all of them
 pub rest_is : (inputs : ℕ) (file : List ℕ) (b n : ℕ) (es : List Entry) → Bytes file → length file ≡ (b + n) * 512 → sums file b n ≡ Ok tt → entries_read inputs file b n ≡ Ok es → entry_blocks b es ≡ drop (b * 512) file
@@ -101,17 +100,11 @@ rest_is inputs file b (suc n) es h l s q =
 -- block 0 is the one that is written of the head
 pub head_is_block : (xs : List ℕ) (c : Contents) (h : Head) → length xs ≡ 512 → Bytes xs → summed 0 xs ≡ Ok tt → HeadRead xs h → h.inputs ≡ c.inputs → h.outputs ≡ length c.entries → h.limit ≡ c.limit → h.spent ≡ c.spent → head_block c ≡ xs
 head_is_block xs c h l y s r ei eo el es =
-    let i : c.inputs ≡ get_or xs 2 0 = sym ei ∙ ap (λ (x : Head). x.inputs) r.is in
-    let o : length c.entries ≡ get_or xs 3 0 = sym eo ∙ ap (λ (x : Head). x.outputs) r.is in
-    let m : c.limit ≡ little xs 4 = sym el ∙ ap (λ (x : Head). x.limit) r.is in
-    let t : c.spent ≡ little xs 8 = sym es ∙ ap (λ (x : Head). x.spent) r.is in
-    ap (λ x. sealed (1 ∷ 0 ∷ x ∷ length c.entries ∷ (bytes4 c.limit ++ bytes4 c.spent))) i
-    ∙ (ap (λ x. sealed (1 ∷ 0 ∷ get_or xs 2 0 ∷ x ∷ (bytes4 c.limit ++ bytes4 c.spent))) o
-    ∙ (ap (λ x. sealed (1 ∷ 0 ∷ get_or xs 2 0 ∷ get_or xs 3 0 ∷ (bytes4 x ++ bytes4 c.spent))) m
-    ∙ (ap (λ x. sealed (1 ∷ 0 ∷ get_or xs 2 0 ∷ get_or xs 3 0 ∷ (bytes4 (little xs 4) ++ bytes4 x))) t
-    ∙ (ap (λ x. sealed (x ∷ 0 ∷ get_or xs 2 0 ∷ get_or xs 3 0 ∷ (bytes4 (little xs 4) ++ bytes4 (little xs 8)))) (sym r.kind)
-    ∙ (ap (λ x. sealed (get_or xs 0 0 ∷ x ∷ get_or xs 2 0 ∷ get_or xs 3 0 ∷ (bytes4 (little xs 4) ++ bytes4 (little xs 8)))) (sym r.number)
-    ∙ (ap sealed (sym (first_of xs (omega arith) y)) ∙ block_sealed 0 xs l y s r.padded))))))
+    let i = r.is in
+    let k = r.kind in
+    let n = r.number in
+    let t = first_of xs (omega arith) y in
+    let b = block_sealed 0 xs l y s r.padded in cc
 
 -- a file is accepted only if writing its sheet gives that file
 pub accepted_only : (file : List ℕ) (c : Contents) → Bytes file → loaded file ≡ Ok c → written c ≡ file

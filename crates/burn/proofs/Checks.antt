@@ -6,7 +6,7 @@ use Rattle.refusal.specs.declared.table.Refusal.{Refusal}
 use Rattle.burn.specs.Blocks.{then, field}
 use Rattle.burn.specs.Rules.{within, vector_fits, wrong_fits, entry_keeps, entries_keep, entry_checked, entries_checked, keeps, agreed}
 use Rattle.burn.specs.declared.entry.Entry.{Entry}
-use Rattle.burn.proofs.Loads.{then_ok, field_ok, agreed_ok}
+use Rattle.burn.proofs.Loads.{same_value, then_ok, field_ok, agreed_ok}
 
 -- what is left to check, by what the next output answered
 pub checks_by : (inputs : ℕ) (es : List Entry) (i : ℕ) (d : Entry) (r : Result (Unit {0}) Refusal) → i < length es → r ≡ entry_checked inputs (i + 1) (get_or es i d) → entries_checked inputs (i + 1) (drop i es) ≡ then r (λ _. entries_checked inputs (i + 1 + 1) (drop (i + 1) es))
@@ -36,12 +36,13 @@ entries_passed inputs b (e ∷ es) q =
     and_from _ _ (entry_passed inputs b e p.1) (entries_passed inputs (b + 1) es p.2)
 
 -- values that were passed are those of a sheet
-pub values_kept : (inputs limit spent n : ℕ) (es xs ys : List Entry) (u v : Unit {0}) → 1 ≤ inputs → inputs ≤ 16 → n ≡ length es → 1 ≤ n → n ≤ 8 → xs ≡ es → ys ≡ es → Ok u ≡ entries_checked inputs 1 xs → Ok v ≡ agreed n n limit spent ys → keeps inputs limit spent es ≡ true
-values_kept inputs limit spent n es xs ys u v i1 i16 l n1 n8 a b p q =
-    let k = entries_passed inputs 1 es (ap (entries_checked inputs 1) (sym a) ∙ sym p) in
-    let g = agreed_ok n n limit spent es (ap (agreed n n limit spent) (sym b) ∙ sym q) in
-    let w : leb 1 (length es) && leb (length es) 8 ≡ true = ap (λ m. leb 1 m && leb m 8) (sym l) ∙ and_from _ _ (le-leb 1 n n1) (le-leb n 8 n8) in
-    and_from _ _ (and_from _ _ (le-leb 1 inputs i1) (le-leb inputs 16 i16)) (and_from _ _ w (and_from _ _ k (and_from _ _ g.1 g.2)))
+pub values_kept : (inputs limit spent n count : ℕ) (es xs : List Entry) (u v : Unit {0}) → Ok inputs ≡ field 0 2 (within 1 16 count) (Ok count) → n ≡ length es → 1 ≤ n → n ≤ 8 → xs ≡ es → Ok u ≡ entries_checked inputs 1 xs → Ok v ≡ agreed n (length xs) limit spent xs → keeps inputs limit spent es ≡ true
+values_kept inputs limit spent n count es xs u v f l n1 n8 e p q =
+    let i = field_ok 0 2 (within 1 16 count) (Ok count) inputs (sym f) in
+    let k = entries_passed inputs 1 es (ap (entries_checked inputs 1) (sym e) ∙ sym p) in
+    let g = agreed_ok n (length es) limit spent es (ap (λ zs. agreed n (length zs) limit spent zs) (sym e) ∙ sym q) in
+    let w : within 1 8 (length es) ≡ true = ap (within 1 8) (sym l) ∙ and_from _ _ (le-leb 1 n n1) (le-leb n 8 n8) in
+    and_from _ _ (ap (within 1 16) (sym (same_value i.1)) ∙ i.0) (and_from _ _ w (and_from _ _ k (and_from _ _ g.1 g.2)))
 
 -- a sheet has 1 to 8 outputs
 pub few_entries : (inputs limit spent : ℕ) (es : List Entry) → keeps inputs limit spent es ≡ true → (1 ≤ length es) × (length es ≤ 8)

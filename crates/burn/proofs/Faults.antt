@@ -1,8 +1,9 @@
 -- Which way a file goes: refused for its length, a sum or a field, or sound in all three.
 use Rattle.std.proofs.Common.{◌≡◌, ℕ, ◌/◌, ◌%◌, ◌<◌, Bool, true, false, cond, ◌&&◌, eqb, leb, ◌≢◌, ◌⊎◌, ◌↔◌, List, length, Ok, Err, Result, sym, refl, ap, ◌∙◌, subst, inl, inr, ⊎_elim, arith}
-use Rattle.std.proofs.lemmas.Bool.{true≢false, cases_order, eqb-true, eqb-false, eq-eqb, le-leb, and_from}
-use Rattle.refusal.specs.Table.{number}
+use Rattle.std.proofs.lemmas.Bool.{true≢false, cases_order, eqb-true, eqb-false}
 use Rattle.refusal.specs.declared.table.Refusal.{Refusal}
+use Rattle.refusal.specs.declared.table.Cause.{Cause}
+use Rattle.refusal.specs.declared.table.Cause.TheVariants.{Blocks, Spent, Limit}
 use Rattle.refusal.specs.declared.table.Refusal.TheVariants.{FileLength, BlockSum, BadField, BadCause}
 use Rattle.burn.specs.Blocks.{then, sums}
 use Rattle.burn.specs.Rules.{within, costs}
@@ -10,19 +11,12 @@ use Rattle.burn.specs.Faults.{Whole, sum_told, sum_due, LowestSum, field_kept, L
 use Rattle.burn.specs.Files.{Contents, counted, joined, loaded}
 use Rattle.burn.specs.declared.entry.Entry.{Entry}
 use Rattle.burn.specs.declared.entry.Head.{Head}
-use Rattle.burn.proofs.Loads.{no_value, same_value, counted_ok}
+use Rattle.burn.proofs.Loads.{same_value, counted_ok, counted_by}
 use Rattle.burn.proofs.Scans.{Tried, Passed, sum_kept, tried_sums, fields_of, passed_fields}
 
 -- a file of n whole blocks is counted as n
 counted_whole : (file : List ℕ) (n : ℕ) → Whole file n → counted file ≡ Ok n
-counted_whole file n w =
-    let l = w.long in
-    let low = w.at_least in
-    let high = w.at_most in
-    let m : length file / 512 ≡ n = omega arith in
-    let whole = eq-eqb (length file % 512) 0 (omega arith) in
-    let few = and_from _ _ (le-leb 2 (length file / 512) (omega arith)) (le-leb (length file / 512) 9 (omega arith)) in
-    ap (λ t. cond t (Ok (length file / 512)) (Err FileLength)) (and_from _ _ whole few) ∙ ap Ok m
+counted_whole file n w = counted_by file n w.long w.at_least w.at_most
 
 whole_counted : (file : List ℕ) (n : ℕ) → counted file ≡ Ok n → Whole file n
 whole_counted file n q = let c = counted_ok file n q in record { long = c.0; at_least = c.1; at_most = c.2 }
@@ -35,12 +29,12 @@ counted_stops : (file : List ℕ) (e : Refusal) → counted file ≡ Err e → e
 counted_stops file e q = go (eqb (length file % 512) 0 && within 2 9 (length file / 512)) q
   where
     go : (t : Bool) → cond t (Ok (length file / 512)) (Err FileLength) ≡ Err e → e ≡ FileLength
-    go true p = absurd (no_value (sym p))
+    go true p = cc
     go false p = cc
 
 -- causes give a sheet or are named by a cause
 abbrev Caused : Result Contents Refusal → Type 0
-Caused r = ((c : Contents) × (r ≡ Ok c)) ⊎ ((m : ℕ) × (r ≡ Err (BadCause m)))
+Caused r = ((c : Contents) × (r ≡ Ok c)) ⊎ ((m : Cause) × (r ≡ Err (BadCause m)))
 
 caused : (h : Head) (es : List Entry) → Caused (joined h es)
 caused h es = go (eqb h.outputs (length es)) (eqb h.spent (costs es)) (leb h.spent h.limit)
@@ -48,11 +42,11 @@ caused h es = go (eqb h.outputs (length es)) (eqb h.spent (costs es)) (leb h.spe
     c : Contents
     c = record { inputs = h.inputs; limit = h.limit; spent = h.spent; entries = es }
 
-    go : (x y z : Bool) → Caused (then (cond x (cond y (cond z (Ok (tt {0})) (Err (BadCause 3))) (Err (BadCause 2))) (Err (BadCause 1))) (λ _. Ok c))
+    go : (x y z : Bool) → Caused (then (cond x (cond y (cond z (Ok (tt {0})) (Err (BadCause Limit))) (Err (BadCause Spent))) (Err (BadCause Blocks))) (λ _. Ok c))
     go true true true = inl (c, refl)
-    go true true false = inr (3, refl)
-    go true false z = inr (2, refl)
-    go false y z = inr (1, refl)
+    go true true false = inr (Limit, refl)
+    go true false z = inr (Spent, refl)
+    go false y z = inr (Blocks, refl)
 
 -- every file goes one of four ways
 data Way (file : List ℕ) : Type 0 where
@@ -79,28 +73,22 @@ way_counted file (Ok n) q =
     (tried_sums file 0 n n (omega arith))
 way_counted file (Err e) q =
     by_length (ap (λ (r : Result ℕ Refusal). then (then (then r (λ m. then (sums file 0 m) (λ _. Ok m))) (fields_of file)) (λ p. joined p.0 p.1)) q ∙ ap Err (counted_stops file e q))
-    (λ n w. no_value (sym q ∙ counted_whole file n w))
+    (λ n w. let e = counted_whole file n w in cc)
 
 way : (file : List ℕ) → Way file
 way file = way_counted file (counted file) refl
 
--- one answer names one fault
-one_fault : {r : Result Contents Refusal} {x y : Refusal} → r ≡ Err x → r ≡ Err y → x ≡ y
-one_fault p q = let e = sym p ∙ q in cc
-
-other_fault : {r : Result Contents Refusal} {x y : Refusal} → r ≡ Err x → r ≡ Err y → number x ≢ number y → ⊥
-other_fault p q d = d (ap number (one_fault p q))
-
-no_cause : {r : Result Contents Refusal} {x : Refusal} → Caused r → r ≡ Err x → number x ≢ 25 → ⊥
-no_cause (inl (c, q)) p d = no_value (sym p ∙ q)
-no_cause (inr (m, q)) p d = other_fault p q d
+-- an answer that names no cause is not one of these
+no_cause : {r : Result Contents Refusal} {x : Refusal} → Caused r → r ≡ Err x → ((m : Cause) → x ≢ BadCause m) → ⊥
+no_cause (inl (c, q)) p d = cc
+no_cause (inr (m, q)) p d = d m (cc)
 
 -- the length
 length_told : (file : List ℕ) → Way file → loaded file ≡ Err FileLength → (n : ℕ) → ¬ Whole file n
 length_told file (by_length q f) p = f
-length_told file (by_sum b q l) p = absurd (other_fault p q (λ e. omega arith))
-length_told file (by_field b byte q l) p = absurd (other_fault p q (λ e. omega arith))
-length_told file (sound n w s f c) p = absurd (no_cause c p (λ e. omega arith))
+length_told file (by_sum b q l) p = absurd (cc)
+length_told file (by_field b byte q l) p = absurd (cc)
+length_told file (sound n w s f c) p = absurd (no_cause c p (λ m e. cc))
 
 length_named : (file : List ℕ) → Way file → ((n : ℕ) → ¬ Whole file n) → loaded file ≡ Err FileLength
 length_named file (by_length q f) g = q
@@ -110,10 +98,10 @@ length_named file (sound n w s f c) g = absurd (g n w)
 
 -- the lowest wrong sum
 sum_said : (file : List ℕ) (b : ℕ) → Way file → loaded file ≡ Err (BlockSum b) → LowestSum file b
-sum_said file b (by_length q f) p = absurd (other_fault p q (λ e. omega arith))
+sum_said file b (by_length q f) p = absurd (cc)
 sum_said file b (by_sum c q l) p = let e : c ≡ b = cc in subst (LowestSum file) e l
-sum_said file b (by_field c byte q l) p = absurd (other_fault p q (λ e. omega arith))
-sum_said file b (sound n w s f c) p = absurd (no_cause c p (λ e. omega arith))
+sum_said file b (by_field c byte q l) p = absurd (cc)
+sum_said file b (sound n w s f c) p = absurd (no_cause c p (λ m e. cc))
 
 one_sum : (file : List ℕ) (b c : ℕ) → LowestSum file b → LowestSum file c → c ≡ b
 one_sum file b c l m = ⊎_elim (λ e. e) (⊎_elim (λ h. absurd (m.wrong (l.before c h))) (λ h. absurd (l.wrong (m.before b h)))) (cases_order c b)
@@ -129,12 +117,12 @@ sum_named file b (sound n w s f c) l = absurd (l.wrong (s b (sum_inside file b n
 
 -- the lowest wrong field
 field_said : (file : List ℕ) (b byte : ℕ) → Way file → loaded file ≡ Err (BadField b byte) → LowestField file b byte
-field_said file b byte (by_length q f) p = absurd (other_fault p q (λ e. omega arith))
-field_said file b byte (by_sum c q l) p = absurd (other_fault p q (λ e. omega arith))
+field_said file b byte (by_length q f) p = absurd (cc)
+field_said file b byte (by_sum c q l) p = absurd (cc)
 field_said file b byte (by_field c k q l) p =
     let d : c ≡ b = cc in
     let e : k ≡ byte = cc in subst (λ (x : ℕ). LowestField file b x) e (subst (λ (x : ℕ). LowestField file x k) d l)
-field_said file b byte (sound n w s f c) p = absurd (no_cause c p (λ e. omega arith))
+field_said file b byte (sound n w s f c) p = absurd (no_cause c p (λ m e. cc))
 
 kept_or_not : {t : Bool} → t ≡ true → t ≡ false → ⊥
 kept_or_not p q = true≢false (sym p ∙ q)

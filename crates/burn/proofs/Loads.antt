@@ -1,10 +1,10 @@
 -- What an accepted block, field or file tells.
-use Rattle.std.proofs.Common.{◌≡◌, ℕ, zero, suc, ◌+◌, ◌-◌, ◌*◌, ◌/◌, ◌%◌, ◌<◌, ◌≤◌, Bool, true, false, cond, ◌&&◌, eqb, leb, ◌⊎◌, List, length, get_or, take, Ok, Err, Result, sym, refl, ap, ◌∙◌, subst, inl, inr, ⊎_elim, arith}
-use native.Mathlib.Nat.{sub-zero}
-use Rattle.std.proofs.lemmas.List.{length-take-le}
-use Rattle.std.proofs.lemmas.Bool.{cases_order, eqb-true, leb-true, and_parts, and_from}
+use Rattle.std.proofs.Common.{◌≡◌, ℕ, zero, suc, ◌+◌, ◌-◌, ◌*◌, ◌/◌, ◌%◌, ◌<◌, ◌≤◌, Bool, true, false, cond, ◌&&◌, eqb, leb, List, length, get_or, Ok, Err, Result, sym, refl, ap, ◌∙◌, subst, ⊎_elim, arith}
+use Rattle.std.proofs.Math.Nat.{eq-or-lt_of_le}
+use Rattle.std.proofs.lemmas.Bool.{eqb-true, leb-true, eq-eqb, le-leb, cond-true, and_parts, and_from}
 use Rattle.std.proofs.lemmas.Bool.Decides.{nat_tests}
 use Rattle.refusal.specs.declared.table.Refusal.{Refusal}
+use Rattle.refusal.specs.declared.table.Cause.TheVariants.{Blocks, Spent, Limit}
 use Rattle.refusal.specs.declared.table.Refusal.TheVariants.{FileLength, BadCause}
 use Rattle.burn.specs.Blocks.{little, block, then, sums, field, zeros}
 use Rattle.burn.specs.Rules.{within, vector_fits, wrong_fits, entry_keeps, entries_keep, costs, keeps, agreed}
@@ -14,7 +14,7 @@ use Rattle.burn.specs.declared.entry.Head.{Head}
 
 -- a refusal is no value
 pub no_value : {X : Type 0} {e : Refusal} {x : X} → ◌≡◌ {A = Result X Refusal} (Err e) (Ok x) → ⊥
-no_value q = let z : ◌≡◌ {A = ℕ} 0 1 = cc in omega arith
+no_value q = cc
 
 pub same_value : {X : Type 0} {x y : X} → ◌≡◌ {A = Result X Refusal} (Ok x) (Ok y) → x ≡ y
 same_value q = cc
@@ -22,15 +22,12 @@ same_value q = cc
 -- two steps that give a value
 pub then_ok : {X Y : Type 0} (r : Result X Refusal) (next : X → Result Y Refusal) (y : Y) → then r next ≡ Ok y → (x : X) × (r ≡ Ok x) × (next x ≡ Ok y)
 then_ok (Ok x) next y q = (x, refl, q)
-then_ok (Err e) next y q = absurd (no_value q)
+then_ok (Err e) next y q = cc
 
 -- a field that was passed
 pub field_ok : {X : Type 0} (b byte : ℕ) (kept : Bool) (rest : Result X Refusal) (y : X) → field b byte kept rest ≡ Ok y → (kept ≡ true) × (rest ≡ Ok y)
 field_ok b byte true rest y q = (refl, q)
-field_ok b byte false rest y q = absurd (no_value q)
-
-at_or_past : (a b : ℕ) → a ≤ b → (a ≡ b) ⊎ (a < b)
-at_or_past a b l = ⊎_elim inl (⊎_elim inr (λ m. absurd (omega arith))) (cases_order a b)
+field_ok b byte false rest y q = cc
 
 -- zeros that were passed
 pub zeros_ok : (b : ℕ) (xs : List ℕ) (place n : ℕ) → zeros b xs place n ≡ Ok tt → (k : ℕ) → place ≤ k → k < place + n → get_or xs k 0 ≡ 0
@@ -39,7 +36,7 @@ zeros_ok b xs place zero q k l h = absurd (omega arith)
 zeros_ok b xs place (suc n) q k l h =
     let f = field_ok b place (eqb (get_or xs place 0) 0) (zeros b xs (place + 1) n) tt q in
     let here : get_or xs place 0 ≡ 0 = eqb-true (get_or xs place 0) 0 f.0 in
-    ⊎_elim (λ e. ap (λ j. get_or xs j 0) (sym e) ∙ here) (λ m. zeros_ok b xs (place + 1) n f.1 k (omega arith) (omega arith)) (at_or_past place k l)
+    ⊎_elim (λ e. ap (λ j. get_or xs j 0) (sym e) ∙ here) (λ m. zeros_ok b xs (place + 1) n f.1 k (omega arith) (omega arith)) (eq-or-lt_of_le l)
 
 -- what the block of an output keeps where it was read as e
 pub record EntryRead (inputs b : ℕ) (xs : List ℕ) (e : Entry) : Type 0 where
@@ -77,7 +74,6 @@ pub record HeadRead (xs : List ℕ) (h : Head) : Type 0 where
   pub kind : get_or xs 0 0 ≡ 1
   pub number : get_or xs 1 0 ≡ 0
   pub some_inputs : within 1 16 (get_or xs 2 0) ≡ true
-  pub some_outputs : within 1 8 (get_or xs 3 0) ≡ true
   pub padded : (k : ℕ) → 12 ≤ k → k < 508 → get_or xs k 0 ≡ 0
   pub is : h ≡ record { inputs = get_or xs 2 0; outputs = get_or xs 3 0; limit = little xs 4; spent = little xs 8 }
 
@@ -92,7 +88,6 @@ head_read_ok xs h q =
       kind = eqb-true _ _ f0.0;
       number = eqb-true _ _ f1.0;
       some_inputs = f2.0;
-      some_outputs = f3.0;
       padded = zeros_ok 0 xs 12 496 z.1;
       is = sym (same_value z.2);
     }
@@ -127,7 +122,14 @@ counted_ok file n q = go (eqb (length file % 512) 0 && within 2 9 (length file /
         let low : 2 ≤ length file / 512 = leb-true _ _ w.0 in
         let high : length file / 512 ≤ 9 = leb-true _ _ w.1 in
         (omega arith, omega arith, omega arith)
-    go false e p = absurd (no_value p)
+    go false e p = cc
+
+pub counted_by : (file : List ℕ) (n : ℕ) → length file ≡ n * 512 → 2 ≤ n → n ≤ 9 → counted file ≡ Ok n
+counted_by file n l low high =
+    let m : length file / 512 ≡ n = omega arith in
+    let whole = eq-eqb (length file % 512) 0 (omega arith) in
+    let few = and_from _ _ (le-leb 2 (length file / 512) (omega arith)) (le-leb (length file / 512) 9 (omega arith)) in
+    cond-true (eqb (length file % 512) 0 && within 2 9 (length file / 512)) (Ok (length file / 512)) (Err FileLength) (and_from _ _ whole few) ∙ ap Ok m
 
 pub blocks_ok : (file : List ℕ) (n : ℕ) → blocks_read file ≡ Ok n → (counted file ≡ Ok n) × (sums file 0 n ≡ Ok tt)
 blocks_ok file n q =
@@ -139,11 +141,11 @@ blocks_ok file n q =
 pub agreed_ok : (m n limit spent : ℕ) (es : List Entry) → agreed m n limit spent es ≡ Ok tt → (m ≡ n) × (eqb spent (costs es) ≡ true) × (leb spent limit ≡ true)
 agreed_ok m n limit spent es q = go (eqb m n) (eqb spent (costs es)) (leb spent limit) refl refl refl q
   where
-    go : (x y z : Bool) → eqb m n ≡ x → eqb spent (costs es) ≡ y → leb spent limit ≡ z → cond x (cond y (cond z (Ok (tt {0})) (Err (BadCause 3))) (Err (BadCause 2))) (Err (BadCause 1)) ≡ Ok tt → (m ≡ n) × (eqb spent (costs es) ≡ true) × (leb spent limit ≡ true)
+    go : (x y z : Bool) → eqb m n ≡ x → eqb spent (costs es) ≡ y → leb spent limit ≡ z → cond x (cond y (cond z (Ok (tt {0})) (Err (BadCause Limit))) (Err (BadCause Spent))) (Err (BadCause Blocks)) ≡ Ok tt → (m ≡ n) × (eqb spent (costs es) ≡ true) × (leb spent limit ≡ true)
     go true true true a b c p = (eqb-true _ _ a, b, c)
-    go true true false a b c p = absurd (no_value p)
-    go true false z a b c p = absurd (no_value p)
-    go false y z a b c p = absurd (no_value p)
+    go true true false a b c p = cc
+    go true false z a b c p = cc
+    go false y z a b c p = cc
 
 -- the fields of a file, read
 pub record FieldsRead (file : List ℕ) (h : Head) (es : List Entry) : Type 0 where
@@ -222,36 +224,10 @@ file_kept file c r =
     let k = entries_kept r.head.inputs file 1 (length c.entries) c.entries r.fields.entries_are in
     and_from _ _ i (and_from _ _ (outputs_kept file r.head c.entries r.fields) (and_from _ _ (ap (λ n. entries_keep n c.entries) (sym r.inputs_is) ∙ k.0) (and_from _ _ r.true_spent r.within_limit)))
 
--- the layers put together again
-pub fields_by : (file : List ℕ) (n : ℕ) (h : Head) (es : List Entry) → blocks_read file ≡ Ok n → head_read (block file 0) ≡ Ok h → entries_read h.inputs file 1 (n - 1) ≡ Ok es → fields_read file ≡ Ok (h, es)
-fields_by file n h es b p q =
-    ap (λ r. then r (λ k. then (head_read (block file 0)) (λ x. then (entries_read x.inputs file 1 (k - 1)) (λ ys. Ok (x, ys))))) b
-    ∙ (ap (λ r. then r (λ (x : Head). then (entries_read x.inputs file 1 (n - 1)) (λ ys. Ok (x, ys)))) p ∙ ap (λ r. then r (λ ys. Ok (h, ys))) q)
-
--- the sheet's layer, by the table of the fields and what its causes answered
-pub loaded_by : (file : List ℕ) (h : Head) (t : List Entry) (m : ℕ) (r : Result (Unit {0}) Refusal) → Ok (h, take m t) ≡ fields_read file → m ≤ length t → r ≡ agreed h.outputs m h.limit h.spent (take (m - 0) t) → loaded file ≡ then r (λ _. Ok (record { inputs = h.inputs; limit = h.limit; spent = h.spent; entries = take m t }))
-loaded_by file h t m r v few a =
-    let z : take (m - 0) t ≡ take m t = ap (λ k. take k t) (sub-zero m) in
-    let l : length (take m t) ≡ m = length-take-le m t few in
-    let e : r ≡ agreed h.outputs (length (take m t)) h.limit h.spent (take m t) = a ∙ (ap (agreed h.outputs m h.limit h.spent) z ∙ ap (λ k. agreed h.outputs k h.limit h.spent (take m t)) (sym l)) in
-    ap (λ (x : Result (Head × List Entry) Refusal). then x (λ p. joined p.0 p.1)) (sym v) ∙ ap (λ x. then x (λ _. Ok (record { inputs = h.inputs; limit = h.limit; spent = h.spent; entries = take m t }))) (sym e)
-
 -- so the rules hold of what becomes a sheet
-pub table_kept : (file : List ℕ) (h : Head) (t : List Entry) (m : ℕ) (u : Unit {0}) (es : List Entry) → Ok (h, take m t) ≡ fields_read file → m ≤ length t → Ok u ≡ agreed h.outputs m h.limit h.spent (take (m - 0) t) → es ≡ take (m - 0) t → keeps h.inputs h.limit h.spent es ≡ true
-table_kept file h t m u es v few a q =
-    let c : Contents = record { inputs = h.inputs; limit = h.limit; spent = h.spent; entries = take m t } in
-    let z : es ≡ take m t = q ∙ ap (λ k. take k t) (sub-zero m) in
-    ap (keeps h.inputs h.limit h.spent) z ∙ file_kept file c (loaded_ok file c (loaded_by file h t m (Ok u) v few a))
-
--- what the code learns of a file's blocks and of its inputs
-pub blocks_few : (file : List ℕ) (n : ℕ) → Ok n ≡ blocks_read file → (length file ≡ n * 512) × (2 ≤ n) × (n ≤ 9)
-blocks_few file n q = counted_ok file n (blocks_ok file n (sym q)).0
-
-pub head_few : (xs : List ℕ) (h : Head) → Ok h ≡ head_read xs → (1 ≤ h.inputs) × (h.inputs ≤ 16)
-head_few xs h q =
-    let r = head_read_ok xs h (sym q) in
-    let p = and_parts _ _ (ap (λ (x : Head). within 1 16 x.inputs) r.is ∙ r.some_inputs) in (leb-true _ _ p.0, leb-true _ _ p.1)
-
--- a fault of the blocks or fields is the file's
-pub loaded_stops : (file : List ℕ) (e : Refusal) → Err e ≡ fields_read file → Err e ≡ loaded file
-loaded_stops file e q = ap (λ (x : Result (Head × List Entry) Refusal). then x (λ p. joined p.0 p.1)) q
+pub table_kept : (file : List ℕ) (h : Head) (es xs ys : List Entry) (u : Unit {0}) → Ok (h, es) ≡ fields_read file → xs ≡ es → Ok u ≡ agreed h.outputs (length xs) h.limit h.spent xs → ys ≡ xs → keeps h.inputs h.limit h.spent ys ≡ true
+table_kept file h es xs ys u v e a q =
+    let c : Contents = record { inputs = h.inputs; limit = h.limit; spent = h.spent; entries = es } in
+    let g = a ∙ ap (λ zs. agreed h.outputs (length zs) h.limit h.spent zs) e in
+    let l : loaded file ≡ Ok c = ap (λ (x : Result (Head × List Entry) Refusal). then x (λ p. joined p.0 p.1)) (sym v) ∙ ap (λ x. then x (λ _. Ok c)) (sym g) in
+    ap (keeps h.inputs h.limit h.spent) (q ∙ e) ∙ file_kept file c (loaded_ok file c l)

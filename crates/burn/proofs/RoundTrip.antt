@@ -2,7 +2,7 @@
 use Rattle.std.proofs.Common.{◌≡◌, ℕ, zero, suc, ◌+◌, ◌-◌, ◌*◌, ◌/◌, ◌%◌, ◌^◌, ◌<◌, ◌≤◌, Bool, true, false, ◌&&◌, eqb, leb, List, [], ◌∷◌, ◌++◌, length, get_or, take, drop, Ok, Err, Result, sym, refl, ap, ◌∙◌, add-one, arith, lit<}
 use Rattle.std.proofs.lemmas.Nat.{mod_below}
 use Rattle.std.proofs.lemmas.List.{take_at, drop_at, drop-drop, length-append}
-use Rattle.std.proofs.lemmas.Bool.{eq-eqb, le-leb, and_from, and_parts, cond-true}
+use Rattle.std.proofs.lemmas.Bool.{eq-eqb, and_parts, cond-true}
 use Rattle.refusal.specs.declared.table.Refusal.{Refusal}
 use Rattle.burn.specs.Blocks.{Bytes, bytes4, little, sealed, block, then, summed, sums, field}
 use Rattle.burn.specs.Rules.{within, vector_fits, wrong_fits, entry_keeps, entries_keep, costs, keeps, agreed, entry_checked, entries_checked}
@@ -10,6 +10,7 @@ use Rattle.burn.specs.Files.{Contents, Typed, no_entry, flag, head_block, entry_
 use Rattle.burn.specs.declared.entry.Entry.{Entry}
 use Rattle.burn.specs.declared.entry.Head.{Head}
 use Rattle.burn.proofs.Checks.{few_entries}
+use Rattle.burn.proofs.Loads.{counted_by}
 use Rattle.burn.proofs.Sealed.{little_of, sealed_low, sealed_zeros, sealed_summed}
 use Rattle.burn.proofs.Writes.{length_sealed}
 
@@ -51,14 +52,12 @@ high_is k0 k1 k2 k3 v w h =
     same_little (g 8 (lit< tt)) (g 9 (lit< tt)) (g 10 (lit< tt)) (g 11 (lit< tt)) ∙ little_of w h
 
 -- an output's block, by what stands in it
-abbrev entry_body : ℕ → ℕ → ℕ → ℕ → ℕ → ℕ → ℕ → ℕ → Result (Unit {0}) Refusal → Result Entry Refusal
+unfoldable entry_body : ℕ → ℕ → ℕ → ℕ → ℕ → ℕ → ℕ → ℕ → Result (Unit {0}) Refusal → Result Entry Refusal
 entry_body inputs b k0 k1 p f v w z =
     field b 0 (eqb k0 2) (field b 1 (eqb k1 b) (field b 2 (leb 1 p) (field b 3 (leb f 1) (field b 4 (vector_fits inputs v) (field b 8 (wrong_fits inputs w) (then z (λ _. Ok (record { price = p; taken = eqb f 1; vector = v; wrong = w }))))))))
 
 same_body : (inputs b : ℕ) {k0 j0 k1 j1 p q f g v x w y : ℕ} {z u : Result (Unit {0}) Refusal} → k0 ≡ j0 → k1 ≡ j1 → p ≡ q → f ≡ g → v ≡ x → w ≡ y → z ≡ u → entry_body inputs b k0 k1 p f v w z ≡ entry_body inputs b j0 j1 q g x y u
-same_body inputs b {k0} {j0} {k1} {j1} {p} {q} {f} {g} {v} {x} {w} {y} {z} {u} e0 e1 ep ef ev ew ez =
-    ap (λ n. entry_body inputs b n k1 p f v w z) e0 ∙ (ap (λ n. entry_body inputs b j0 n p f v w z) e1 ∙ (ap (λ n. entry_body inputs b j0 j1 n f v w z) ep ∙ (ap (λ n. entry_body inputs b j0 j1 q n v w z) ef
-    ∙ (ap (λ n. entry_body inputs b j0 j1 q g n w z) ev ∙ (ap (λ n. entry_body inputs b j0 j1 q g x n z) ew ∙ ap (λ n. entry_body inputs b j0 j1 q g x y n) ez)))))
+same_body inputs b e0 e1 ep ef ev ew ez = cc
 
 -- three tests, each a field, and then a value
 three : {X : Type 0} (b : ℕ) (x y z : Bool) (v : X) → field b 2 x (field b 4 y (field b 8 z (Ok v))) ≡ then (field b 2 x (field b 4 y (field b 8 z (Ok (tt {0}))))) (λ _. Ok v)
@@ -68,6 +67,7 @@ three b true false z v = refl
 three b false y z v = refl
 
 body_is : (inputs b p : ℕ) (t : Bool) (v w : ℕ) → entry_body inputs b 2 b p (flag t) v w (Ok tt) ≡ then (entry_checked inputs b (record { price = p; taken = t; vector = v; wrong = w })) (λ _. Ok (record { price = p; taken = t; vector = v; wrong = w }))
+unfolding entry_body
 body_is inputs b p true v w = cond-true (eqb b b) _ _ (eq-eqb b b refl) ∙ three b (leb 1 p) (vector_fits inputs v) (wrong_fits inputs w) _
 body_is inputs b p false v w = cond-true (eqb b b) _ _ (eq-eqb b b refl) ∙ three b (leb 1 p) (vector_fits inputs v) (wrong_fits inputs w) _
 
@@ -78,6 +78,7 @@ pub record EntryTyped (e : Entry) : Type 0 where
   pub wrong : e.wrong < 2 ^ 32
 
 pub entry_back : (inputs b : ℕ) (e : Entry) → EntryTyped e → entry_read inputs b (entry_block b e) ≡ then (entry_checked inputs b e) (λ _. Ok e)
+unfolding entry_body
 entry_back inputs b e t =
     let first = twelve 2 b e.price (flag e.taken) e.vector e.wrong in
     let g = λ (k : ℕ) (l : k < 12). sealed_low first k refl l in
@@ -126,19 +127,18 @@ module _ (inputs : ℕ) (file : List ℕ) where
       ∙ nest (entry_checked inputs b e) (entries_checked inputs (b + 1) es) e es))
 
 -- block 0, by what stands in it
-abbrev head_body : ℕ → ℕ → ℕ → ℕ → ℕ → ℕ → Result (Unit {0}) Refusal → Result Head Refusal
+unfoldable head_body : ℕ → ℕ → ℕ → ℕ → ℕ → ℕ → Result (Unit {0}) Refusal → Result Head Refusal
 head_body k0 k1 n m l s z = field 0 0 (eqb k0 1) (field 0 1 (eqb k1 0) (field 0 2 (within 1 16 n) (field 0 3 (within 1 8 m) (then z (λ _. Ok (record { inputs = n; outputs = m; limit = l; spent = s }))))))
 
 same_head : {k0 j0 k1 j1 n p m q l x s y : ℕ} {z u : Result (Unit {0}) Refusal} → k0 ≡ j0 → k1 ≡ j1 → n ≡ p → m ≡ q → l ≡ x → s ≡ y → z ≡ u → head_body k0 k1 n m l s z ≡ head_body j0 j1 p q x y u
-same_head {k0} {j0} {k1} {j1} {n} {p} {m} {q} {l} {x} {s} {y} {z} {u} e0 e1 en em el es ez =
-    ap (λ k. head_body k k1 n m l s z) e0 ∙ (ap (λ k. head_body j0 k n m l s z) e1 ∙ (ap (λ k. head_body j0 j1 k m l s z) en ∙ (ap (λ k. head_body j0 j1 p k l s z) em
-    ∙ (ap (λ k. head_body j0 j1 p q k s z) el ∙ (ap (λ k. head_body j0 j1 p q x k z) es ∙ ap (λ k. head_body j0 j1 p q x y k) ez)))))
+same_head e0 e1 en em el es ez = cc
 
 -- the head of some values
 abbrev head_of : Contents → Head
 head_of c = record { inputs = c.inputs; outputs = length c.entries; limit = c.limit; spent = c.spent }
 
 head_back : (c : Contents) → Typed c → head_read (head_block c) ≡ field 0 2 (within 1 16 c.inputs) (field 0 3 (within 1 8 (length c.entries)) (Ok (head_of c)))
+unfolding head_body
 head_back c t =
     let m = length c.entries in
     let first = twelve 1 0 c.inputs m c.limit c.spent in
@@ -155,13 +155,7 @@ pub length_written : (c : Contents) → length (written c) ≡ (length c.entries
 length_written c = let i = length_blocks 1 c.entries in let l : length (head_block c) ≡ 512 = length_sealed _ refl in length-append (head_block c) (entry_blocks 1 c.entries) ∙ omega arith
 
 counted_back : (c : Contents) → 1 ≤ length c.entries → length c.entries ≤ 8 → counted (written c) ≡ Ok (length c.entries + 1)
-counted_back c low high =
-    let n = length (written c) in
-    let l = length_written c in
-    let q : n / 512 ≡ length c.entries + 1 = omega arith in
-    let whole : eqb (n % 512) 0 ≡ true = eq-eqb (n % 512) 0 (omega arith) in
-    let few : within 2 9 (n / 512) ≡ true = and_from (leb 2 (n / 512)) (leb (n / 512) 9) (le-leb 2 (n / 512) (omega arith)) (le-leb (n / 512) 9 (omega arith)) in
-    cond-true (eqb (n % 512) 0 && within 2 9 (n / 512)) (Ok (n / 512)) _ (and_from (eqb (n % 512) 0) (within 2 9 (n / 512)) whole few) ∙ ap Ok q
+counted_back c low high = counted_by (written c) (length c.entries + 1) (length_written c) (omega arith) (omega arith)
 
 -- the blocks behind block 0
 rest_back : (c : Contents) → drop (1 * 512) (written c) ≡ entry_blocks 1 c.entries

@@ -1,10 +1,12 @@
 -- What stands where in a closed block, and that such a block is read as what it was made of.
-use Rattle.std.proofs.Common.{◌≡◌, ℕ, zero, suc, ◌+◌, ◌-◌, ◌*◌, ◌/◌, ◌%◌, ◌^◌, ◌<◌, ◌≤◌, eqb, List, [], ◌∷◌, length, get_or, take, drop, Ok, sym, refl, ap, ◌∙◌, ⊎_elim, add-zero, mod-eq_of_lt, arith}
-use Rattle.std.proofs.lemmas.Nat.{mul-le, shr-shr, div-add-mod', div-mul-add, mod-mul-add, div_below}
+use Rattle.std.proofs.Common.{◌≡◌, ℕ, ◌+◌, ◌-◌, ◌*◌, ◌/◌, ◌%◌, ◌^◌, ◌<◌, ◌≤◌, eqb, List, [], ◌∷◌, length, get_or, take, drop, Ok, sym, ap, ◌∙◌, ⊎_elim, add-zero, mod-eq_of_lt, arith}
+use Rattle.std.proofs.lemmas.Nat.{shr-shr, div-add-mod', div-mul-add, mod-mul-add, div_below}
 use Rattle.std.proofs.lemmas.List.{take_at, drop_at, get_or_append_left, get_or-append_right, get_or-replicate, get_or-drop, get_or-take, get_or_past}
 use Rattle.std.proofs.lemmas.Bool.{eq-eqb, cond-true, cases_lt}
 use Rattle.burn.specs.Blocks.{Bytes, bytes4, little, weighed, padding, front, sealed, summed, zeros}
 use Rattle.burn.proofs.Fronts.{length_padding, length_front}
+use Rattle.burn.proofs.Sums.{weighed_le}
+use Rattle.burn.proofs.Fields.{zeros_by}
 
 -- a number of four digits to the base 256
 digits : (x q1 r0 q2 r1 q3 r2 r3 : ℕ) → q1 * 256 + r0 ≡ x → q2 * 256 + r1 ≡ q1 → q3 * 256 + r2 ≡ q2 → r3 ≡ q3 → r0 + r1 * 256 + r2 * 65536 + r3 * 16777216 ≡ x
@@ -38,22 +40,6 @@ bytes_of a b c d ha hb hc hd =
     let q3 : x / 16777216 ≡ d = sym (by_256 x).1 ∙ (ap (λ n. n / 256) (q2 ∙ s2) ∙ div-mul-add d 256 c hc) in
     same_four (ap (λ n. n % 256) s0 ∙ mod-mul-add (b + c * 256 + d * 65536) 256 a ha) (ap (λ n. n % 256) (q1 ∙ s1) ∙ mod-mul-add (c + d * 256) 256 b hb)
     (ap (λ n. n % 256) (q2 ∙ s2) ∙ mod-mul-add d 256 c hc) (ap (λ n. n % 256) q3 ∙ mod-eq_of_lt hd)
-
--- zeros that stand there are passed
-pub zeros_by : (b : ℕ) (xs : List ℕ) (place n : ℕ) → ((k : ℕ) → place ≤ k → k < place + n → get_or xs k 0 ≡ 0) → zeros b xs place n ≡ Ok tt
-unfolding zeros
-zeros_by b xs place zero f = refl
-zeros_by b xs place (suc n) f =
-    cond-true (eqb (get_or xs place 0) 0) _ _ (eq-eqb (get_or xs place 0) 0 (f place (omega arith) (omega arith)))
-    ∙ zeros_by b xs (place + 1) n (λ k l h. f k (omega arith) (omega arith))
-
--- a sum of at most 508 bytes is small
-pub weighed_le : (factor : ℕ) (xs : List ℕ) → Bytes xs → factor + length xs ≤ 509 → weighed factor xs ≤ 129795 * length xs
-unfolding weighed
-weighed_le factor [] b h = omega arith
-weighed_le factor (x ∷ xs) b h =
-    let i = weighed_le (factor + 1) xs (λ k. b (suc k)) (omega arith) in
-    let e : factor * x ≤ 129795 = mul-le factor x 509 255 (omega arith) (omega (arith, b 0)) in omega arith
 
 -- the places of a front
 pub front_low : (first : List ℕ) (k : ℕ) → length first ≡ 12 → k < 12 → get_or (front first) k 0 ≡ get_or first k 0

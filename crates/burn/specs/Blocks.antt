@@ -1,8 +1,8 @@
 -- Blocks of a burn file, their numbers and their sums, for whoever reads or writes one.
 -- A byte is a number below 256; every number of a file stands with its lowest byte first.
-use Rattle.std.specs.Prelude.{ℕ, zero, suc, ◌+◌, ◌*◌, ◌/◌, ◌%◌, ◌<◌, Bool, cond, List, [], ◌∷◌, ◌++◌, length, take, drop, replicate, Ok, Err, Result, ◌==◌, nat_le, slice_index}
+use Rattle.std.specs.Prelude.{ℕ, zero, suc, ◌+◌, ◌*◌, ◌/◌, ◌%◌, ◌<◌, Bool, cond, List, [], ◌∷◌, ◌++◌, take, drop, replicate, Ok, Err, Result, ◌==◌, slice_index}
 use Rattle.refusal.specs.declared.table.Refusal.{Refusal}
-use Rattle.refusal.specs.declared.table.Refusal.TheVariants.{FileLength, BlockSum, BadField}
+use Rattle.refusal.specs.declared.table.Refusal.TheVariants.{BlockSum, BadField}
 use Rattle.burn.specs.declared.entry.Fields.{Fields}
 
 -- every element is a byte
@@ -52,13 +52,9 @@ unfoldable pub sums : List ℕ → ℕ → ℕ → Result (Unit {0}) Refusal
 sums file b zero = Ok tt
 sums file b (suc n) = then (summed b (block file b)) (λ _. sums file (b + 1) n)
 
--- the first two numbers of some bytes
-abbrev pub two_numbers : List ℕ → Result (ℕ × ℕ) Refusal
-two_numbers xs = cond (nat_le 8 (length xs)) (Ok (little xs 0, little xs 4)) (Err FileLength)
-
 -- the first twelve bytes of a block, taken apart
-abbrev pub opened : List ℕ → Result Fields Refusal
-opened xs = cond (nat_le 12 (length xs)) (Ok (record { kind = slice_index xs 0; number = slice_index xs 1; first = slice_index xs 2; second = slice_index xs 3; low = little xs 4; high = little xs 8 })) (Err FileLength)
+abbrev pub taken_apart : List ℕ → Fields
+taken_apart xs = record { kind = slice_index xs 0; number = slice_index xs 1; first = slice_index xs 2; second = slice_index xs 3; low = little xs 4; high = little xs 8 }
 
 -- goes on where a field keeps its rule, else names the block and the field's first byte
 abbrev pub field : {X : Type 0} → ℕ → ℕ → Bool → Result X Refusal → Result X Refusal

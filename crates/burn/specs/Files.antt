@@ -1,6 +1,6 @@
 -- What a sheet holds, the file that is written of it, and what a file loads as.
 -- For whoever hands a sheet to the burner or takes a file from it.
-use Rattle.std.specs.Prelude.{◌≡◌, ℕ, zero, suc, ◌+◌, ◌-◌, ◌*◌, ◌/◌, ◌%◌, ◌^◌, ◌<◌, ◌≤◌, Bool, true, false, cond, ◌&&◌, ◌⊎◌, List, [], ◌∷◌, ◌++◌, length, take, drop, is_ok, Ok, Err, vec_items, Result, ◌==◌, nat_le, slice_index, slice_index_or}
+use Rattle.std.specs.Prelude.{◌≡◌, ℕ, zero, suc, ◌+◌, ◌-◌, ◌*◌, ◌/◌, ◌%◌, ◌^◌, ◌<◌, ◌≤◌, Bool, true, false, cond, ◌&&◌, ◌⊎◌, List, [], ◌∷◌, ◌++◌, length, drop, is_ok, Ok, Err, vec_items, Result, ◌==◌, nat_le, slice_index, slice_index_or}
 use Rattle.refusal.specs.declared.table.Refusal.{Refusal}
 use Rattle.refusal.specs.declared.table.Refusal.TheVariants.{FileLength, BufferShort, NoMemory}
 use Rattle.burn.specs.Blocks.{Bytes, bytes4, little, sealed, block, then, sums, field, zeros}
@@ -115,7 +115,7 @@ checked c =
 
 -- a table read as fields
 abbrev pub table_read : Result Table Refusal → Result (Head × List Entry) Refusal
-table_read (Ok t) = Ok (t.head, take t.outputs t.entries)
+table_read (Ok t) = Ok (t.head, t.entries.items)
 table_read (Err e) = Err e
 
 -- an answer of the code read as one of the definitions

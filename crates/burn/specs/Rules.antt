@@ -3,6 +3,7 @@
 use Rattle.std.specs.Prelude.{ℕ, ◌+◌, ◌-◌, ◌*◌, ◌/◌, ◌^◌, Bool, true, cond, ◌&&◌, List, [], ◌∷◌, length, Ok, Err, Result, ◌==◌, nat_le}
 use Rattle.refusal.specs.declared.table.Refusal.{Refusal}
 use Rattle.refusal.specs.declared.table.Refusal.TheVariants.{BadCause}
+use Rattle.refusal.specs.declared.table.Cause.TheVariants.{Blocks, Spent, Limit}
 use Rattle.burn.specs.Blocks.{field, then}
 use Rattle.burn.specs.declared.entry.Entry.{Entry}
 
@@ -42,7 +43,7 @@ keeps inputs limit spent es = within 1 16 inputs && (within 1 8 (length es) && (
 
 -- the causes that several fields break together, the lowest one refused
 abbrev pub agreed : ℕ → ℕ → ℕ → ℕ → List Entry → Result (Unit {0}) Refusal
-agreed outputs blocks limit spent es = cond (outputs == blocks) (cond (spent == costs es) (cond (nat_le spent limit) (Ok tt) (Err (BadCause 3))) (Err (BadCause 2))) (Err (BadCause 1))
+agreed outputs blocks limit spent es = cond (outputs == blocks) (cond (spent == costs es) (cond (nat_le spent limit) (Ok tt) (Err (BadCause Limit))) (Err (BadCause Spent))) (Err (BadCause Blocks))
 
 -- the values of the output in block b, the lowest wrong field refused
 abbrev pub entry_checked : ℕ → ℕ → Entry → Result (Unit {0}) Refusal

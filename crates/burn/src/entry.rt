@@ -1,7 +1,9 @@
 // What a burn file keeps of one output.
+use crate::rule::Inputs;
+use arrayvec::ArrayVec;
 
 // The price of an output, whether it is taken, its value vector and its wrong count.
-#[derive(Clone, Copy, PartialEq, Eq, Debug)]
+#[derive(Clone, Copy, PartialEq, Eq, Debug, Default)]
 pub struct Entry {
     pub price: u8,
     pub taken: bool,
@@ -13,7 +15,7 @@ pub struct Entry {
 // What the first block says: inputs, outputs, limit and spent figure.
 #[derive(Clone, Copy)]
 pub struct Head {
-    pub inputs: u32,
+    pub inputs: Inputs,
     pub outputs: u32,
     pub limit: u32,
     pub spent: u32,
@@ -30,10 +32,9 @@ pub struct Fields {
     pub high: u32,
 }
 
-// A file's fields: the head, and the entries in the front of a table.
-#[derive(Clone, Copy)]
+// The fields of a file: what block 0 tells, and the entries of the blocks behind it.
+#[derive(Drop)]
 pub struct Table {
     pub head: Head,
-    pub outputs: usize,
-    pub entries: [Entry; 8],
+    pub entries: ArrayVec<Entry, 8>,
 }

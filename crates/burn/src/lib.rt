@@ -6,6 +6,7 @@ mod build;
 mod entry;
 mod field;
 mod loading;
+mod outputs;
 mod rule;
 mod sheet;
 mod theorems;

@@ -1,60 +1,46 @@
 // A burn file loaded: its blocks, then its fields, then the sheet. A fault goes up as it is found.
-ghost use Rattle.std.specs.Prelude.{◌≡◌, ◌+◌, ◌*◌, ◌≤◌, length, take, IfOk, Ok, Err, MatchResult};
+ghost use Rattle.std.specs.Prelude.{◌≡◌, ◌-◌, length, Ok, Err, MatchResult};
+ghost use Rattle.std.specs.List.{concat};
 ghost use Rattle.burn.specs.Files.{entries_read, blocks_read, fields_read, table_read, loaded, Answers, FileLaws};
 
-use crate::block::{BLOCK, block_count, check_sums};
+use crate::block::Blocks;
 use crate::entry::{Entry, Table};
 use crate::field::{read_entry, read_head};
-use crate::rule::check_causes;
+use crate::outputs::Outputs;
+use crate::rule::Inputs;
 use crate::sheet::Sheet;
+use arrayvec::ArrayVec;
 use refusal::Refusal;
 use std::alloc::Global;
 
-// What stands in a table behind its entries.
-const BLANK: Entry = Entry {
-    price: 0,
-    taken: false,
-    vector: 0,
-    wrong: 0,
-};
-
-// How many blocks the file has, once all their sums are right.
-fn read_blocks(file: &[u8]) -> Result<u32, Refusal>
-    ensures { result ≡ blocks_read file.now }
+// The blocks of a file, once all their sums are right.
+fn read_blocks(file: &[u8]) -> Result<Blocks<'_>, Refusal>
+    ensures { MatchResult result (λ b. (blocks_read file.now ≡ Ok (length b.all.now)) × (concat b.all.now ≡ file.now)) (λ e. blocks_read file.now ≡ Err e) }
 {
-    let count = block_count(file)?;
-    check_sums(file, count)?;
-    Ok(count)
+    let blocks = Blocks::of(file)?;
+    blocks.check_sums()?;
+    Ok(blocks)
 }
 
-// The entries of so many outputs, in the front of a table.
-fn read_entries(file: &[u8], outputs: u32, inputs: u32) -> Result<[Entry; 8], Refusal>
-    requires { (length file.now ≡ (outputs + 1) * 512) × ((outputs ≤ 8) × ((1 ≤ inputs) × (inputs ≤ 16))) }
-    ensures { MatchResult result (λ t. entries_read inputs file.now 1 outputs ≡ Ok (take outputs t)) (λ e. entries_read inputs file.now 1 outputs ≡ Err e) }
+// The entries of the blocks behind the first.
+fn read_entries(blocks: &Blocks, inputs: Inputs) -> Result<ArrayVec<Entry, 8>, Refusal>
+    ensures { MatchResult result (λ t. entries_read inputs (concat blocks.now.all.now) 1 (length blocks.now.all.now - 1) ≡ Ok t.items) (λ e. entries_read inputs (concat blocks.now.all.now) 1 (length blocks.now.all.now - 1) ≡ Err e) }
 {
-    let mut entries = [BLANK; 8];
-    for index in 0..outputs {
-        let number = index + 1;
-        let start = number as usize * BLOCK;
-        entries[index as usize] = read_entry(&file[start..start + BLOCK], number, inputs)?;
+    let mut entries = ArrayVec::new();
+    for (index, block) in blocks.all[1..].iter().enumerate() {
+        entries.push(read_entry(block, index as u32 + 1, inputs)?);
     }
     Ok(entries)
 }
 
 // All fields of the file, once its blocks are right.
 fn read_fields(file: &[u8]) -> Result<Table, Refusal>
-    ensures value { table_read result ≡ fields_read file.now }
-    ensures bound { IfOk result (λ t. t.outputs ≤ 8) }
+    ensures { table_read result ≡ fields_read file.now }
 {
-    let count = read_blocks(file)?;
-    let head = read_head(&file[0..BLOCK])?;
-    let outputs = count - 1;
-    let entries = read_entries(file, outputs, head.inputs)?;
-    Ok(Table {
-        head,
-        outputs: outputs as usize,
-        entries,
-    })
+    let blocks = read_blocks(file)?;
+    let head = read_head(&blocks.all[0])?;
+    let entries = read_entries(&blocks, head.inputs)?;
+    Ok(Table { head, entries })
 }
 
 // The sheet of a file, or the first fault of the file: all sums are tried, then all fields, then the causes.
@@ -63,9 +49,11 @@ pub fn load(heap: Global, file: &[u8]) -> Result<Sheet, Refusal>
     ensures laws { FileLaws }
 {
     let table = read_fields(file)?;
-    let entries = &table.entries[0..table.outputs];
-    check_causes(table.head, table.outputs as u32, entries)?;
-    let kept = Vec::from_slice(heap, entries)?;
+    let outputs = Outputs {
+        entries: table.entries.as_slice(),
+    };
+    outputs.check_causes(table.head)?;
+    let kept = Vec::from_slice(heap, outputs.entries)?;
     Ok(Sheet {
         inputs: table.head.inputs,
         limit: table.head.limit,

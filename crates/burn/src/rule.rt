@@ -1,63 +1,62 @@
 // The rules of a sheet's values that files and sheets share.
-ghost use Rattle.std.specs.Prelude.{◌≡◌, ◌^◌, ◌≤◌, length};
-ghost use Rattle.burn.specs.Rules.{vector_fits, wrong_fits, cost, costs, agreed};
+ghost use Rattle.std.specs.Prelude.{◌≡◌, ◌≤◌, Ok};
+ghost use Rattle.burn.specs.Blocks.{field};
+ghost use Rattle.burn.specs.Rules.{within, vector_fits, wrong_fits};
 
-use crate::entry::{Entry, Head};
 use refusal::Refusal;
+use std::marker::Model;
 
-// Whether a value vector has no bit above the inputs.
-pub fn vector_fits(inputs: u32, vector: u32) -> bool
-    requires { inputs ≤ 16 }
-    ensures { result ≡ vector_fits inputs vector }
-{
-    vector >> (inputs + 1) == 0
+// How many inputs there are: 1 to 16.
+#[derive(Clone, Copy)]
+pub struct Inputs {
+    count: u32,
 }
 
-// Whether a wrong count is at most half of all rows.
-pub fn wrong_fits(inputs: u32, wrong: u32) -> bool
-    requires { (1 ≤ inputs) × (inputs ≤ 16) }
-    ensures { result ≡ wrong_fits inputs wrong }
-{
-    wrong <= 1 << (inputs - 1)
+impl Model for Inputs {
+    ghost use Rattle.std.specs.Prelude.{ℕ, ◌≤◌};
+    ghost use Rattle.std.specs.Coded.{coded_ℕ};
+
+    ghost Value = { ℕ };
+
+    ghost coded = { coded_ℕ };
+
+    ghost view = { λ i. i.count };
+
+    ghost inverse = { λ n. record { count = n } };
+
+    ghost invariant = { λ i. (1 ≤ i.count) × (i.count ≤ 16) };
 }
 
-// What an output costs: price × wrong count if it is taken.
-fn cost_of(entry: Entry) -> u64
-    ensures value { result ≡ cost entry }
-    ensures bound { result ≤ 2 ^ 40 }
-{
-    if entry.taken {
-        u64::from(entry.price) * u64::from(entry.wrong)
-    } else {
-        0
+impl Inputs {
+    // Refuses, as block 0's field, what is not 1 to 16.
+    pub fn new(count: u32) -> Result<Inputs, Refusal>
+        ensures { result ≡ field 0 2 (within 1 16 count) (Ok count) }
+    {
+        if !(1..=16).contains(&count) {
+            return Err(Refusal::BadField { block: 0, byte: 2 });
+        }
+        Ok(Inputs { count })
     }
-}
 
-// What all outputs cost together.
-fn total(entries: &[Entry]) -> u64
-    requires { length entries.now ≤ 255 }
-    ensures { result ≡ costs entries.now }
-{
-    let mut sum = 0;
-    for entry in entries {
-        sum += cost_of(*entry);
+    // The number.
+    pub fn count(self) -> u32
+        ensures value { result ≡ self }
+        ensures few { result ≤ 16 }
+    {
+        self.count
     }
-    sum
-}
 
-// Refuses what the fields break together: the count of blocks, the spent figure, the limit.
-pub fn check_causes(head: Head, blocks: u32, entries: &[Entry]) -> Result<(), Refusal>
-    requires { length entries.now ≤ 255 }
-    ensures { result ≡ agreed head.outputs blocks head.limit head.spent entries.now }
-{
-    if head.outputs != blocks {
-        return Err(Refusal::BadCause { cause: 1 });
+    // Whether a value vector has no bit above the inputs.
+    pub fn vector_fits(self, vector: u32) -> bool
+        ensures { result ≡ vector_fits self vector }
+    {
+        vector >> (self.count + 1) == 0
     }
-    if u64::from(head.spent) != total(entries) {
-        return Err(Refusal::BadCause { cause: 2 });
+
+    // Whether a wrong count is at most half of all rows.
+    pub fn wrong_fits(self, wrong: u32) -> bool
+        ensures { result ≡ wrong_fits self wrong }
+    {
+        wrong <= 1 << (self.count - 1)
     }
-    if head.spent > head.limit {
-        return Err(Refusal::BadCause { cause: 3 });
-    }
-    Ok(())
 }

@@ -1,44 +1,45 @@
 // A sheet written into a buffer that the burner lends.
-ghost use Rattle.std.specs.Prelude.{◌≡◌, ◌+◌, ◌*◌, ◌≤◌, ◌++◌, length, take, drop};
-ghost use Rattle.burn.specs.Files.{contents, head_block, entry_block, entry_blocks, needed, write_answer, overwritten};
+ghost use Rattle.std.specs.Prelude.{◌≡◌, ◌*◌, length};
+ghost use Rattle.burn.specs.Files.{contents, head_block, entry_block, entry_blocks, write_answer, overwritten};
 
-use crate::block::{BLOCK, closed};
+use crate::block::{BLOCK, Block, closed};
 use crate::entry::Entry;
 use crate::sheet::Sheet;
 use refusal::Refusal;
 
 // The block of an output.
-fn block_of(entry: Entry, number: u8) -> [u8; 512]
-    ensures { result ≡ entry_block number entry }
+fn block_of(entry: &Entry, number: u8) -> Block
+    ensures { result ≡ entry_block number entry.now }
 {
-    let taken = if entry.taken { 1 } else { 0 };
+    let taken = u8::from(entry.taken);
     let [a, b, c, d] = entry.vector.to_le_bytes();
     let [e, f, g, h] = entry.wrong.to_le_bytes();
     closed([2, number, entry.price, taken, a, b, c, d, e, f, g, h])
 }
 
-// The blocks of all outputs, from the buffer's second block on.
-fn write_entries(entries: &[Entry], buffer: &mut [u8])
-    requires { (length entries.now ≤ 8) × ((length entries.now + 1) * 512 ≤ length buffer.old) }
-    ensures { buffer.new ≡ take 512 buffer.old ++ (entry_blocks 1 entries.now ++ drop ((length entries.now + 1) * 512) buffer.old) }
-{
-    for (index, entry) in entries.iter().enumerate() {
-        let block = block_of(*entry, index as u8 + 1);
-        let start = (index + 1) * BLOCK;
-        buffer[start..start + BLOCK].copy_from_slice(&block);
-    }
-}
-
 impl Sheet {
     // The first block.
-    fn first_block(&self) -> [u8; 512]
+    fn first_block(&self) -> Block
         ensures { result ≡ head_block (contents self.now) }
     {
         let [a, b, c, d] = self.limit.to_le_bytes();
         let [e, f, g, h] = self.spent.to_le_bytes();
-        let inputs = self.inputs as u8;
+        let inputs = self.inputs.count() as u8;
         let outputs = self.entries.len() as u8;
         closed([1, 0, inputs, outputs, a, b, c, d, e, f, g, h])
+    }
+
+    // The blocks of all outputs, over a part that is as long as they are.
+    fn write_entries(&self, part: &mut [u8])
+        requires { length part.old ≡ length (contents self.now).entries * 512 }
+        ensures { part.new ≡ entry_blocks 1 (contents self.now).entries }
+    {
+        // by place: of chunks lent by `chunks_exact_mut` no proof knows what the part holds afterwards
+        for (index, entry) in self.entries.as_slice().iter().enumerate() {
+            let block = block_of(entry, index as u8 + 1);
+            let start = index * BLOCK;
+            part[start..start + BLOCK].copy_from_slice(&block);
+        }
     }
 
     // Writes the file into the front of a buffer and answers its length; a buffer that is too short stays as it is.
@@ -52,7 +53,7 @@ impl Sheet {
         }
         let first = self.first_block();
         buffer[0..BLOCK].copy_from_slice(&first);
-        write_entries(self.entries.as_slice(), buffer);
+        self.write_entries(&mut buffer[BLOCK..length]);
         Ok(length)
     }
 }

@@ -1,19 +1,23 @@
-use Rattle.std.proofs.Common.{◌*◌, ◌≤◌, arith}
-use Rattle.burn.proofs.Sums.{weighed_more, weighed_all, one_adds}
+use Rattle.std.proofs.Common.{take, ◌≤◌, length, ◌*◌, sym, ◌∙◌, arith, rules}
+use Rattle.std.specs.List.{enumerate_from}
+use Rattle.std.proofs.lemmas.List.{length-take}
+use Rattle.std.proofs.lemmas.Iterator.{YieldsList-from_slice, YieldsList-from_map}
+use Rattle.std.proofs.lemmas.Iterator.Consumers.{YieldsList-from_enumerate, YieldsList-at, sum_by_from_yields_List, fits_by_from_yields_list}
+use Rattle.burn.specs.Blocks.{weighed}
+use Rattle.burn.proofs.Sums.{added, weighed_added, weighed_le, bytes_take}
 use Rattle.burn.proofs.block.weighted_sum.Goals as goal
 
--- what this byte adds is small
-adds : (c : goal.After-from) → c.loop-byte.factor * c.from.result ≤ 129540
-adds c = one_adds c.loop-byte.factor c.from.result (omega arith) (omega (arith, c.type_inv.bytes c.loop-byte.byte-index))
-
-pub overflow_add-sum : goal.overflow_add-sum
-overflow_add-sum c = let a = adds c in omega arith
-
-pub loop-byte-preserved : goal.loop-byte-preserved
-loop-byte-preserved c =
-    let a = adds c in
-    let m = weighed_more c.loop-byte.factor c.args.bytes.now c.loop-byte.byte-index c.loop-byte-test.true in
-    (omega arith, rw c.from.ensures (omega arith), omega arith)
+pub sum-requires-clause-fits : goal.sum-requires-clause-fits
+sum-requires-clause-fits c =
+    let xs = take 508 c.args.block.now in
+    let small : weighed 1 xs ≤ 129795 * length xs = weighed_le 1 xs (bytes_take 508 c.args.block.now c.fits-block) (omega (arith, length-take 508 c.args.block.now)) in
+    fits_by_from_yields_list added (enumerate_from 0 xs) c.map.result _
+    (YieldsList-from_map _ added (YieldsList-at c.map.ensures.source (YieldsList-from_enumerate (YieldsList-at c.enumerate.ensures.source (YieldsList-from_slice xs cc)) cc)) c.map.ensures.closure (λ x r q k. search rules))
+    (omega (arith, weighed_added 0 xs, length-take 508 c.args.block.now))
 
 pub returns : goal.returns
-returns c = let e = weighed_all c.loop-byte.factor c.args.bytes.now c.loop-byte.byte-index (omega arith) in omega arith
+returns c =
+    let xs = take 508 c.args.block.now in
+    sum_by_from_yields_List added (enumerate_from 0 xs) c.map.result _ c.sum.ensures.ran
+    (YieldsList-from_map _ added (YieldsList-at c.map.ensures.source (YieldsList-from_enumerate (YieldsList-at c.enumerate.ensures.source (YieldsList-from_slice xs cc)) cc)) c.map.ensures.closure (λ x r q k. search rules))
+    ∙ sym (weighed_added 0 xs)

@@ -1,17 +1,15 @@
-use Rattle.std.proofs.Common.{sym, ◌∙◌, arith}
-use Rattle.std.proofs.lemmas.Bool.Decides.{nat_tests}
-use Rattle.burn.proofs.Fields.{zeros_more, zeros_all}
+use Rattle.std.proofs.Common.{◌∙◌, sym, take, drop, rules, tests}
+use Rattle.std.proofs.lemmas.Iterator.{YieldsList-from_slice}
+use Rattle.std.proofs.lemmas.Iterator.Search.{position_from_yields_List}
+use Rattle.burn.proofs.Fields.{not_zero, padding_stops, padding_passes}
 use Rattle.burn.proofs.field.check_padding.Goals as goal
 
-pub returns-then-block-place-ne0 : goal.returns-then-block-place-ne0
-returns-then-block-place-ne0 c =
-    let m = zeros_more c.args.number c.args.block.now c.loop-place.place 508 c.loop-place-test.true in
-    let i = c.loop-place.invariant in grind (arith, nat_tests)
+pub returns-in-Some : goal.returns-in-Some
+returns-in-Some c =
+    padding_stops c.args.block c.args.bytes.now c.in-Some.place (search rules)
+    (sym (position_from_yields_List not_zero _ _ _ c.position.ensures.ran (YieldsList-from_slice (take 496 (drop 12 c.args.bytes.now)) cc) (λ x b q k. search (rules, tests))) ∙ c.in-Some.is)
 
-pub loop-place-preserved : goal.loop-place-preserved
-loop-place-preserved c =
-    let m = zeros_more c.args.number c.args.block.now c.loop-place.place 508 c.loop-place-test.true in
-    let i = c.loop-place.invariant in grind (arith, nat_tests)
-
-pub returns : goal.returns
-returns c = sym (zeros_all c.args.number c.args.block.now c.loop-place.place 508 c.loop-place-test.false) ∙ c.loop-place.invariant
+pub returns-in-None : goal.returns-in-None
+returns-in-None c =
+    padding_passes c.args.block c.args.bytes.now (search rules)
+    (sym (position_from_yields_List not_zero _ _ _ c.position.ensures.ran (YieldsList-from_slice (take 496 (drop 12 c.args.bytes.now)) cc) (λ x b q k. search (rules, tests))) ∙ c.in-None.is)
