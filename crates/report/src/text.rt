@@ -1,6 +1,6 @@
 // The text that is printed of a burn file.
-ghost use Rattle.std.specs.Prelude.{◌≡◌, ◌+◌, ◌<◌, ◌≤◌, ◌++◌, length, IfOk, string_bytes};
-ghost use Rattle.burn.specs.Files.{contents, flag, loaded};
+ghost use Rattle.std.specs.Prelude.{◌≡◌, ◌+◌, ◌<◌, IfOk, string_bytes};
+ghost use Rattle.burn.specs.Files.{contents, loaded};
 ghost use Rattle.report.specs.Listing.{digit, digits, head_line, entry_line, entry_lines, listed, reported};
 
 use burn::{Entry, Sheet};
@@ -10,8 +10,7 @@ use std::alloc::{AllocError, Global};
 // The value at a weight, as a digit.
 fn digit_at(vector: u32, weight: u32) -> char
     requires { weight < 32 }
-    ensures value { result ≡ digit vector weight }
-    ensures bound { result < 128 }
+    ensures { result ≡ digit vector weight }
 {
     if (vector >> weight) % 2 == 1 {
         '1'
@@ -21,32 +20,26 @@ fn digit_at(vector: u32, weight: u32) -> char
 }
 
 // The values of a vector, from weight 0 up to the inputs.
-fn values_text(heap: Global, inputs: u32, vector: u32) -> Result<String, AllocError>
-    requires { inputs ≤ 16 }
-    ensures { IfOk result (λ t. string_bytes t ≡ digits vector 0 (inputs + 1)) }
+fn values_text(heap: Global, sheet: &Sheet, vector: u32) -> Result<String, AllocError>
+    ensures { IfOk result (λ t. string_bytes t ≡ digits vector 0 ((contents sheet.now).inputs + 1)) }
 {
-    let mut text = String::new(heap);
-    for weight in 0..inputs + 1 {
-        text.push(digit_at(vector, weight))?;
-    }
-    Ok(text)
-}
-
-// Taken as a number.
-fn flag_of(taken: bool) -> u32
-    ensures { result ≡ flag taken }
-{
-    if taken { 1 } else { 0 }
+    (0..sheet.inputs() + 1)
+        .map(|weight| digit_at(vector, weight))
+        .collect(heap)
 }
 
 // The line of one output.
-fn entry_text(heap: Global, inputs: u32, output: usize, entry: Entry) -> Result<String, AllocError>
-    requires { inputs ≤ 16 }
-    ensures { IfOk result (λ t. string_bytes t ≡ entry_line inputs output entry) }
+fn entry_text(
+    heap: Global,
+    sheet: &Sheet,
+    output: usize,
+    entry: &Entry,
+) -> Result<String, AllocError>
+    ensures { IfOk result (λ t. string_bytes t ≡ entry_line (contents sheet.now).inputs output entry.now) }
 {
-    let values = values_text(heap, inputs, entry.vector)?;
+    let values = values_text(heap, sheet, entry.vector)?;
     let price = entry.price;
-    let taken = flag_of(entry.taken);
+    let taken = u32::from(entry.taken);
     let wrong = entry.wrong;
     format!(in heap; "{output} price {price} taken {taken} vector {values} wrong {wrong}\n")
 }
@@ -66,10 +59,9 @@ fn head_text(heap: Global, sheet: &Sheet) -> Result<String, AllocError>
 pub fn listing_of(heap: Global, sheet: &Sheet) -> Result<String, AllocError>
     ensures { IfOk result (λ t. string_bytes t ≡ listed (contents sheet.now)) }
 {
-    let inputs = sheet.inputs();
     let mut text = head_text(heap, sheet)?;
     for (output, entry) in sheet.entries().iter().enumerate() {
-        let line = entry_text(heap, inputs, output, *entry)?;
+        let line = entry_text(heap, sheet, output, entry)?;
         text.push_str(line.as_str())?;
     }
     Ok(text)

@@ -9,7 +9,7 @@ loop-output-preserved c =
     let sheet = contents c.args.sheet.now in
     let output = c.loop-output.output in
     let before = string_bytes c.loop-output.text in
-    let line = c.as_str.ensures.value ∙ (c.in_ok-line.ensures ∙ (ap (λ n. entry_line n output (get_or c.entries-entry-items.result.now output no_entry)) c.inputs-inputs.ensures ∙ ap (λ es. entry_line sheet.inputs output (get_or es output no_entry)) c.entries-entry-items.ensures)) in
+    let line = c.as_str.ensures.value ∙ (c.in_ok-line.ensures ∙ ap (λ es. entry_line sheet.inputs output (get_or es output no_entry)) c.entries-entry-items.ensures) in
     let after = c.in_ok-push_str.ensures.bytes ∙ ap (λ x. before ++ x) line in
     ap (λ x. x ++ entry_lines sheet.inputs (output + 1) (drop (output + 1) sheet.entries)) after
     ∙ lines_more before _ sheet.inputs output sheet.entries no_entry (omega (arith, ap length c.entries-entry-items.ensures)) c.loop-output.invariant
