@@ -14,10 +14,8 @@ pub fn read_file(rt: &HostRuntime) -> io::Result<Vec<u8>>
     let mut source = rt.stdin();
     let mut file = Vec::new(rt.alloc());
     let mut buffer = [0u8; 512];
-    for _ in 0..u64::MAX {
-        if file.len() > LONGEST {
-            break;
-        }
+    // a loop: `read_to_end` says nothing of the length, since what standard input still holds is not known
+    while file.len() <= LONGEST {
         let count = source.read(&mut buffer)?;
         if count == 0 {
             break;
