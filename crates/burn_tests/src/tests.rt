@@ -1,203 +1,57 @@
 // Each refusal of a file at its edges, and what writing leaves.
 use burn::{Entry, Sheet, load};
-use refusal::Refusal;
+use refusal::{Cause, Refusal};
 use std::alloc::{AllocError, Global};
 use std::test::Fail;
 
-// One byte of the sample changed, and what a load then says; the sum is made right again where asked.
-struct Case {
-    place: usize,
-    value: u8,
-    summed: bool,
-    says: &'static str,
-}
+// A byte of the sample by its place, what it becomes, whether the sum is made right again, and what a load then says.
+struct Case(usize, u8, bool, &'static str);
 
 const CASES: [Case; 29] = [
-    Case {
-        place: 508,
-        value: 57,
-        summed: false,
-        says: "23 0",
-    },
-    Case {
-        place: 1020,
-        value: 87,
-        summed: false,
-        says: "23 1",
-    },
-    Case {
-        place: 515,
-        value: 2,
-        summed: false,
-        says: "23 1",
-    },
-    Case {
-        place: 0,
-        value: 2,
-        summed: true,
-        says: "24 0 0",
-    },
-    Case {
-        place: 1,
-        value: 1,
-        summed: true,
-        says: "24 0 1",
-    },
-    Case {
-        place: 2,
-        value: 0,
-        summed: true,
-        says: "24 0 2",
-    },
-    Case {
-        place: 2,
-        value: 17,
-        summed: true,
-        says: "24 0 2",
-    },
-    Case {
-        place: 2,
-        value: 16,
-        summed: true,
-        says: "sheet",
-    },
-    Case {
-        place: 3,
-        value: 0,
-        summed: true,
-        says: "24 0 3",
-    },
-    Case {
-        place: 3,
-        value: 9,
-        summed: true,
-        says: "24 0 3",
-    },
-    Case {
-        place: 12,
-        value: 1,
-        summed: true,
-        says: "24 0 12",
-    },
-    Case {
-        place: 507,
-        value: 1,
-        summed: true,
-        says: "24 0 507",
-    },
-    Case {
-        place: 512,
-        value: 1,
-        summed: true,
-        says: "24 1 0",
-    },
-    Case {
-        place: 513,
-        value: 2,
-        summed: true,
-        says: "24 1 1",
-    },
-    Case {
-        place: 514,
-        value: 0,
-        summed: true,
-        says: "24 1 2",
-    },
-    Case {
-        place: 515,
-        value: 2,
-        summed: true,
-        says: "24 1 3",
-    },
-    Case {
-        place: 516,
-        value: 28,
-        summed: true,
-        says: "24 1 4",
-    },
-    Case {
-        place: 516,
-        value: 15,
-        summed: true,
-        says: "sheet",
-    },
-    Case {
-        place: 520,
-        value: 5,
-        summed: true,
-        says: "24 1 8",
-    },
-    Case {
-        place: 524,
-        value: 1,
-        summed: true,
-        says: "24 1 12",
-    },
-    Case {
-        place: 1019,
-        value: 1,
-        summed: true,
-        says: "24 1 507",
-    },
-    Case {
-        place: 3,
-        value: 2,
-        summed: true,
-        says: "25 1",
-    },
-    Case {
-        place: 514,
-        value: 255,
-        summed: true,
-        says: "25 2",
-    },
-    Case {
-        place: 515,
-        value: 0,
-        summed: true,
-        says: "25 2",
-    },
-    Case {
-        place: 520,
-        value: 4,
-        summed: true,
-        says: "25 2",
-    },
-    Case {
-        place: 8,
-        value: 4,
-        summed: true,
-        says: "25 2",
-    },
-    Case {
-        place: 4,
-        value: 2,
-        summed: true,
-        says: "25 3",
-    },
-    Case {
-        place: 4,
-        value: 4,
-        summed: true,
-        says: "sheet",
-    },
-    Case {
-        place: 7,
-        value: 255,
-        summed: true,
-        says: "sheet",
-    },
+    Case(508, 57, false, "23 0"),
+    Case(1020, 87, false, "23 1"),
+    Case(515, 2, false, "23 1"),
+    Case(0, 2, true, "24 0 0"),
+    Case(1, 1, true, "24 0 1"),
+    Case(2, 0, true, "24 0 2"),
+    Case(2, 17, true, "24 0 2"),
+    Case(2, 16, true, "sheet"),
+    Case(3, 0, true, "24 0 3"),
+    Case(3, 9, true, "24 0 3"),
+    Case(12, 1, true, "24 0 12"),
+    Case(507, 1, true, "24 0 507"),
+    Case(512, 1, true, "24 1 0"),
+    Case(513, 2, true, "24 1 1"),
+    Case(514, 0, true, "24 1 2"),
+    Case(515, 2, true, "24 1 3"),
+    Case(516, 28, true, "24 1 4"),
+    Case(516, 15, true, "sheet"),
+    Case(520, 5, true, "24 1 8"),
+    Case(524, 1, true, "24 1 12"),
+    Case(1019, 1, true, "24 1 507"),
+    Case(3, 2, true, "25 1"),
+    Case(514, 255, true, "25 2"),
+    Case(515, 0, true, "25 2"),
+    Case(520, 4, true, "25 2"),
+    Case(8, 4, true, "25 2"),
+    Case(4, 2, true, "25 3"),
+    Case(4, 4, true, "sheet"),
+    Case(7, 255, true, "sheet"),
 ];
+
+// An output that is taken.
+fn entry(price: u8, vector: u32, wrong: u32) -> Entry {
+    Entry {
+        price,
+        taken: true,
+        vector,
+        wrong,
+    }
+}
 
 // The sheet of three inputs and one output, price 3, taken, value vector 12, one wrong row.
 fn sample(heap: Global, limit: u32) -> Result<Sheet, Refusal> {
-    let entry = Entry {
-        price: 3,
-        taken: true,
-        vector: 12,
-        wrong: 1,
-    };
-    Sheet::new(3, limit, 3, Vec::from_slice(heap, &[entry])?)
+    Sheet::new(3, limit, 3, Vec::from_slice(heap, &[entry(3, 12, 1)])?)
 }
 
 // The sum of (place + 1) × byte, reckoned backwards: what each byte adds is added once more for each byte before it.
@@ -223,18 +77,18 @@ fn said(heap: Global, file: &[u8]) -> Result<String, AllocError> {
 fn each_field_is_held_to_its_rule(rt: HostRuntime) -> Result<(), Fail> {
     let heap = rt.alloc();
     let sheet = sample(heap, 3)?;
-    for case in CASES.iter() {
+    for Case(place, value, summed, says) in CASES.iter() {
         let mut file = [0u8; 1024];
         assert_eq!(rt; sheet.write(&mut file)?, 1024);
-        assert!(rt; case.place < 1024);
-        file[case.place] = case.value;
-        if case.summed {
-            let start = if case.place < 512 { 0usize } else { 512 };
+        assert!(rt; *place < 1024);
+        file[*place] = *value;
+        if *summed {
+            let start = if *place < 512 { 0usize } else { 512 };
             let sum = sum_of(&file[start..start + 508]);
             file[start + 508..start + 512].copy_from_slice(&sum.to_le_bytes());
         }
-        let says = said(heap, &file)?;
-        assert!(rt; says.as_str() == case.says, "{}", case.says);
+        let said = said(heap, &file)?;
+        assert!(rt; said.as_str() == *says, "{says}");
     }
     Ok(())
 }
@@ -278,51 +132,25 @@ fn a_short_buffer_stays_and_a_long_one_keeps_its_tail(rt: HostRuntime) -> Result
 #[test]
 fn a_sheet_is_refused_as_its_file_would_be(rt: HostRuntime) -> Result<(), Fail> {
     let heap = rt.alloc();
-    let good = Entry {
-        price: 3,
-        taken: true,
-        vector: 12,
-        wrong: 1,
-    };
-    let free = Entry {
-        price: 0,
-        taken: true,
-        vector: 12,
-        wrong: 1,
-    };
-    let tall = Entry {
-        price: 3,
-        taken: true,
-        vector: 16,
-        wrong: 1,
-    };
-    let poor = Entry {
-        price: 3,
-        taken: true,
-        vector: 12,
-        wrong: 5,
-    };
-    assert!(rt; Sheet::new(0, 3, 3, Vec::from_slice(heap, &[good])?).is_err());
-    assert!(rt; Sheet::new(17, 3, 3, Vec::from_slice(heap, &[good])?).is_err());
-    assert!(rt; Sheet::new(3, 3, 0, Vec::new(heap)).is_err());
-    assert!(rt; Sheet::new(3, 99, 27, Vec::from_slice(heap, &[good; 9])?).is_err());
-    assert!(rt; Sheet::new(3, 99, 24, Vec::from_slice(heap, &[good; 8])?).is_ok());
-    for bad in [free, tall, poor] {
-        assert!(rt; Sheet::new(3, 99, 6, Vec::from_slice(heap, &[good, bad])?).is_err());
+    let goods = [entry(3, 12, 1); 9];
+    for (inputs, limit, spent, count, made) in [
+        (0, 3, 3, 1usize, false),
+        (17, 3, 3, 1, false),
+        (3, 3, 0, 0, false),
+        (3, 99, 27, 9, false),
+        (3, 99, 24, 8, true),
+        (3, 3, 2, 1, false),
+        (3, 2, 3, 1, false),
+        (3, u32::MAX, 3, 1, true),
+    ] {
+        assert!(rt; count <= 9);
+        let entries = Vec::from_slice(heap, &goods[0..count])?;
+        assert_eq!(rt; Sheet::new(inputs, limit, spent, entries).is_ok(), made);
     }
-    assert!(rt; Sheet::new(3, 3, 2, Vec::from_slice(heap, &[good])?).is_err());
-    assert!(rt; sample(heap, 2).is_err());
-    assert!(rt; sample(heap, u32::MAX).is_ok());
+    for bad in [entry(0, 12, 1), entry(3, 16, 1), entry(3, 12, 5)] {
+        assert!(rt; Sheet::new(3, 99, 6, Vec::from_slice(heap, &[goods[0], bad])?).is_err());
+    }
     Ok(())
-}
-
-fn entry(price: u8, vector: u32, wrong: u32) -> Entry {
-    Entry {
-        price,
-        taken: true,
-        vector,
-        wrong,
-    }
 }
 
 // The refusal of a sheet of these values, or none.
@@ -339,7 +167,7 @@ fn bad_field(block: u32, byte: u32) -> Option<Refusal> {
     Some(Refusal::BadField { block, byte })
 }
 
-fn bad_cause(cause: u32) -> Option<Refusal> {
+fn bad_cause(cause: Cause) -> Option<Refusal> {
     Some(Refusal::BadCause { cause })
 }
 
@@ -362,8 +190,8 @@ fn the_refusal_names_the_field_or_the_cause(rt: HostRuntime) -> Result<(), Fail>
         refusal(heap, 99, 6, &[good, entry(3, 12, 5)])?,
         bad_field(2, 8)
     );
-    assert_eq!(rt; refusal(heap, 3, 2, &[good])?, bad_cause(2));
-    assert_eq!(rt; refusal(heap, 2, 3, &[good])?, bad_cause(3));
+    assert_eq!(rt; refusal(heap, 3, 2, &[good])?, bad_cause(Cause::Spent));
+    assert_eq!(rt; refusal(heap, 2, 3, &[good])?, bad_cause(Cause::Limit));
     assert_eq!(rt; refusal(heap, u32::MAX, 3, &[good])?, None);
     Ok(())
 }
