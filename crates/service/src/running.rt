@@ -23,12 +23,7 @@ fn drawn_reply<D: Design + Drop>(
 ) -> Result<Reply, AllocError>
     ensures { IfOk result (λ r. told r ≡ reply (terms_of service.now) (lines_of service.now) (Draw output room)) }
 {
-    let blank = Node {
-        level: 0,
-        low: 0,
-        high: 0,
-    };
-    let mut nodes = vec![in heap; blank; room.min(136) as usize]?;
+    let mut nodes = vec![in heap; Node::default(); room.min(136) as usize]?;
     match service.draw(output, &mut nodes) {
         Ok(drawn) => {
             nodes.truncate(drawn.count);

@@ -7,10 +7,10 @@ use std::alloc::Global;
 use std::io;
 
 // Says whether a table was made.
-fn say<D: Drop>(rt: &HostRuntime, name: &str, made: Result<D, Refusal>) -> io::Result<()> {
+fn say<D: Drop>(rt: &HostRuntime, made: Result<D, Refusal>) -> io::Result<()> {
     match made {
-        Ok(_) => println!(rt; "{name}: made"),
-        Err(refusal) => println!(rt; "{name}: refused {refusal}"),
+        Ok(_) => println!(rt; "made"),
+        Err(refusal) => println!(rt; "refused {refusal}"),
     }
 }
 
@@ -39,36 +39,39 @@ fn crowded_cover(heap: Global, count: u16) -> Result<Cover, Refusal> {
 }
 
 // A diagram of so many nodes, all alike.
-fn crowded_diagram(heap: Global, count: usize) -> Result<Diagram, Refusal> {
+fn crowded_diagram(heap: Global, count: u16) -> Result<Diagram, Refusal> {
     let node = Node {
         level: 15,
         low: 0,
         high: 1,
     };
-    let nodes = vec![in heap; node; count]?;
+    let nodes = vec![in heap; node; usize::from(count)]?;
     Diagram::new(16, 1, nodes, Vec::from_slice(heap, &[3])?)
 }
 
-// Covers at their limits and one past each.
-fn try_covers(rt: &HostRuntime) -> io::Result<()> {
-    let heap = rt.alloc();
-    say(rt, "cover of 16 inputs", bare_cover(heap, 16, 1))?;
-    say(rt, "cover of 17 inputs", bare_cover(heap, 17, 1))?;
-    say(rt, "cover of 8 outputs", bare_cover(heap, 16, 8))?;
-    say(rt, "cover of 9 outputs", bare_cover(heap, 16, 9))?;
-    say(rt, "cover of 4,096 cubes", crowded_cover(heap, 4096))?;
-    say(rt, "cover of 4,097 cubes", crowded_cover(heap, 4097))
-}
-
-// The same for diagrams.
-fn try_diagrams(rt: &HostRuntime) -> io::Result<()> {
-    let heap = rt.alloc();
-    say(rt, "diagram of 16 inputs", bare_diagram(heap, 16, 1))?;
-    say(rt, "diagram of 17 inputs", bare_diagram(heap, 17, 1))?;
-    say(rt, "diagram of 8 outputs", bare_diagram(heap, 16, 8))?;
-    say(rt, "diagram of 9 outputs", bare_diagram(heap, 16, 9))?;
-    say(rt, "diagram of 4,096 nodes", crowded_diagram(heap, 4096))?;
-    say(rt, "diagram of 4,097 nodes", crowded_diagram(heap, 4097))
+// Tables of one make at its limits and one past each: bare ones of so many inputs and outputs, and ones of so many parts.
+fn try_make<D: Drop, B: Fn(u32, u32) -> Result<D, Refusal>, C: Fn(u16) -> Result<D, Refusal>>(
+    rt: &HostRuntime,
+    make: &str,
+    parts: &str,
+    bare: B,
+    crowded: C,
+) -> io::Result<()>
+    requires bare { B.IsAlwaysCallable bare }
+    requires crowded { C.IsAlwaysCallable crowded }
+{
+    print!(rt; "{make} of 16 inputs: ")?;
+    say(rt, bare(16, 1))?;
+    print!(rt; "{make} of 17 inputs: ")?;
+    say(rt, bare(17, 1))?;
+    print!(rt; "{make} of 8 outputs: ")?;
+    say(rt, bare(16, 8))?;
+    print!(rt; "{make} of 9 outputs: ")?;
+    say(rt, bare(16, 9))?;
+    print!(rt; "{make} of 4,096 {parts}: ")?;
+    say(rt, crowded(4096))?;
+    print!(rt; "{make} of 4,097 {parts}: ")?;
+    say(rt, crowded(4097))
 }
 
 // A cover of 16 inputs joined with a diagram of so many inputs and outputs.
@@ -76,14 +79,28 @@ fn try_pair(rt: &HostRuntime, name: &str, inputs: u32, outputs: u32) -> anyhow::
     let heap = rt.alloc();
     let first = bare_cover(heap, 16, 4)?;
     let second = bare_diagram(heap, inputs, outputs)?;
-    say(rt, name, Joined::new(first, second))?;
+    print!(rt; "{name}: ")?;
+    say(rt, Joined::new(first, second))?;
     Ok(())
 }
 
 // Each make at its limits and one past them, then pairs.
 pub(crate) fn try_all(rt: &HostRuntime) -> anyhow::Result<()> {
-    try_covers(rt)?;
-    try_diagrams(rt)?;
+    let heap = rt.alloc();
+    try_make(
+        rt,
+        "cover",
+        "cubes",
+        |inputs, outputs| bare_cover(heap, inputs, outputs),
+        |count| crowded_cover(heap, count),
+    )?;
+    try_make(
+        rt,
+        "diagram",
+        "nodes",
+        |inputs, outputs| bare_diagram(heap, inputs, outputs),
+        |count| crowded_diagram(heap, count),
+    )?;
     try_pair(rt, "pair of 4 and 4 outputs", 16, 4)?;
     try_pair(rt, "pair of 4 and 5 outputs", 16, 5)?;
     try_pair(rt, "pair of 16 and 15 inputs", 15, 5)

@@ -20,7 +20,9 @@ pub(crate) fn list_small(rt: &HostRuntime) -> anyhow::Result<()> {
     let length = service.sheet(heap)?.write(&mut file)?;
     let (first, second) = file.split_at(512);
     println!(rt;
-        "burn file: {length} bytes, block sums {} and {}", sum_of(first), sum_of(second)
+        "burn file: {length} bytes, block sums {} and {}",
+        sum_of(first),
+        sum_of(second)
     )?;
     rt.print(report_of(heap, &file)?)?;
     Ok(())
