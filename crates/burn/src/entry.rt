@@ -21,7 +21,8 @@ pub struct Head {
     pub spent: u32,
 }
 
-// The first twelve bytes of a block: four bytes, then two numbers of four bytes each.
+// The first twelve bytes of a block: four bytes, then two numbers of four bytes each. The kind is a byte and no enum: a file
+// may hold any, and one that is not the block's is refused by its place.
 #[derive(Clone, Copy)]
 pub struct Fields {
     pub kind: u8,

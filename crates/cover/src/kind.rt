@@ -1,20 +1,21 @@
 // Kinds of cubes.
 ghost use Rattle.std.specs.Prelude.{◌≡◌};
-ghost use Rattle.cover.specs.Kinds.{kind_of, mark_of};
+ghost use Rattle.cover.specs.Kinds.{number, kind_of, mark_of};
 
 use design::Mark;
 
 // What a cube asks of the rows that it holds.
-#[derive(Clone, Copy, PartialEq, Eq)]
-pub(crate) enum Kind {
+#[derive(Clone, Copy, PartialEq, Eq, Debug)]
+pub enum Kind {
     On,
     DontCare,
 }
 
 // A number that is no kind's.
-#[derive(Clone, Copy, PartialEq, Eq)]
-pub(crate) struct NoKind;
+#[derive(Clone, Copy, PartialEq, Eq, Debug)]
+pub struct NoKind;
 
+// The kind that has a number.
 impl TryFrom<u32> for Kind {
     type Error = NoKind;
 
@@ -29,6 +30,19 @@ impl TryFrom<u32> for Kind {
     }
 }
 
+// The number of a kind in a camera's table.
+impl From<Kind> for u32 {
+    ghost from_gives = { λ kind n. n ≡ number kind };
+
+    fn from(kind: Kind) -> u32 {
+        match kind {
+            Kind::On => 1,
+            Kind::DontCare => 2,
+        }
+    }
+}
+
+// The mark of the rows that a cube of a kind holds.
 impl From<Kind> for Mark {
     ghost from_gives = { λ kind r. r ≡ mark_of kind };
 

@@ -112,3 +112,12 @@ fn a_full_table_is_taken(rt: HostRuntime) -> Result<(), Fail> {
     assert_eq!(rt; cover.tally(0, 8), Ok(Tally { on: 12870, free: 0 }));
     Ok(())
 }
+
+#[test]
+fn kinds_have_their_numbers(rt: HostRuntime) {
+    assert_eq!(rt; [Kind::On, Kind::DontCare].map(u32::from), [1, 2]);
+    assert_eq!(rt;
+        [0, 1, 2].map(Kind::try_from),
+        [Err(NoKind), Ok(Kind::On), Ok(Kind::DontCare)]
+    );
+}

@@ -15,6 +15,7 @@ struct Drawings {
     rows: Outcome,
 }
 
+// Sums of drawings, as of outcomes: `sum` asks an impl of each type that is summed.
 impl Add for Drawings {
     type Output = Drawings;
 

@@ -8,6 +8,7 @@ mod makes;
 mod sending;
 
 use compare::compare;
+use cover::Kind;
 use samples::{Outcome, small_cover, small_diagram};
 
 // Every make, and pairs of them.
@@ -30,11 +31,15 @@ fn all_edges(rt: &HostRuntime) -> anyhow::Result<Outcome> {
     let heap = rt.alloc();
     let outcomes = [
         compare(rt, "ties at every weight", &makes::ties(heap)?)?,
-        compare(rt, "all on", &makes::all_of(heap, 16, 1)?)?,
+        compare(rt, "all on", &makes::all_of(heap, 16, Kind::On)?)?,
         compare(rt, "all off", &makes::none_of(heap, 16)?)?,
-        compare(rt, "all free", &makes::all_of(heap, 16, 2)?)?,
-        compare(rt, "one input on", &makes::all_of(heap, 1, 1)?)?,
-        compare(rt, "one input free", &makes::all_of(heap, 1, 2)?)?,
+        compare(rt, "all free", &makes::all_of(heap, 16, Kind::DontCare)?)?,
+        compare(rt, "one input on", &makes::all_of(heap, 1, Kind::On)?)?,
+        compare(
+            rt,
+            "one input free",
+            &makes::all_of(heap, 1, Kind::DontCare)?,
+        )?,
     ];
     Ok(outcomes.into_iter().sum())
 }

@@ -1,5 +1,5 @@
 // The designs whose tallies are printed.
-use cover::{Cover, Cube};
+use cover::{Cover, Cube, Kind};
 use design::Joined;
 use diagram::{Diagram, Node};
 use refusal::Refusal;
@@ -75,7 +75,11 @@ pub(crate) fn blocks(heap: Global) -> Result<Cover, Refusal> {
         .filter(|value| value % 5 != 0)
         .map(|value| Cube {
             output: 0,
-            kind: if value % 2 == 0 { 2 } else { 1 },
+            kind: u32::from(if value % 2 == 0 {
+                Kind::DontCare
+            } else {
+                Kind::On
+            }),
             fixed: 63,
             value,
         })
@@ -84,10 +88,10 @@ pub(crate) fn blocks(heap: Global) -> Result<Cover, Refusal> {
 }
 
 // One row of four inputs.
-fn row_of(kind: u32, row: u16) -> Cube {
+fn row_of(kind: Kind, row: u16) -> Cube {
     Cube {
         output: 0,
-        kind,
+        kind: u32::from(kind),
         fixed: 15,
         value: row,
     }
@@ -95,16 +99,18 @@ fn row_of(kind: u32, row: u16) -> Cube {
 
 // At each weight as many rows on as off; weights 0 and 4 have one row each, and it is a don't-care.
 pub(crate) fn ties(heap: Global) -> Result<Cover, Refusal> {
-    let on = [1, 2, 3, 5, 6, 7, 11].into_iter().map(|row| row_of(1, row));
-    let free = [0, 15].into_iter().map(|row| row_of(2, row));
+    let on = [1, 2, 3, 5, 6, 7, 11]
+        .into_iter()
+        .map(|row| row_of(Kind::On, row));
+    let free = [0, 15].into_iter().map(|row| row_of(Kind::DontCare, row));
     Cover::new(4, 1, on.chain(free).collect(heap)?)
 }
 
 // One cube that holds every row, of this kind.
-pub(crate) fn all_of(heap: Global, inputs: u32, kind: u32) -> Result<Cover, Refusal> {
+pub(crate) fn all_of(heap: Global, inputs: u32, kind: Kind) -> Result<Cover, Refusal> {
     let all = Cube {
         output: 0,
-        kind,
+        kind: u32::from(kind),
         fixed: 0,
         value: 0,
     };

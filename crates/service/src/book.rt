@@ -71,7 +71,8 @@ impl Ledger {
         self.spent = spent;
     }
 
-    // Takes an output, and tells what is then spent.
+    // Takes an output, and tells what is then spent. `back` does likewise: one method for both would have to be given the other
+    // one's reckoning and flag.
     pub(crate) fn take(&mut self, output: u32) -> Result<u32, Refusal>
         ensures answer { answered Taken result ≡ take_answer self.old output }
         ensures accounts { self.new.accounts.items ≡ accounts_after self.old output (answered Taken result) }

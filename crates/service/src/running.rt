@@ -36,7 +36,7 @@ fn drawn_reply<D: Design + Drop>(
     }
 }
 
-// The reply to one call.
+// The reply to one call. A match and no closures: calls are listed and printed, as closures could not be.
 fn reply_to<D: Design + Drop>(
     heap: Global,
     service: &mut Service<D>,

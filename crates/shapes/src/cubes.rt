@@ -1,7 +1,7 @@
 // Covers made at random, of cubes no two of which meet.
 use crate::maker::Maker;
 use crate::shapes::Shape;
-use cover::{Cover, Cube};
+use cover::{Cover, Cube, Kind};
 use refusal::Refusal;
 use std::alloc::AllocError;
 
@@ -45,9 +45,10 @@ impl Maker {
         for piece in pieces {
             let kind = match self.dice.below(4) {
                 0 => continue,
-                1 => 2,
-                _ => 1,
+                1 => Kind::DontCare,
+                _ => Kind::On,
             };
+            let kind = u32::from(kind);
             table.push(Cube { kind, ..*piece })?;
         }
         Ok(())
@@ -63,10 +64,19 @@ impl Maker {
         Ok(table)
     }
 
+    // Any kind, as a number.
+    fn kind(&mut self) -> u32 {
+        u32::from(if self.dice.below(2) == 0 {
+            Kind::On
+        } else {
+            Kind::DontCare
+        })
+    }
+
     // Any cube.
     fn any(&mut self) -> Cube {
         let output = self.frame.output(&mut self.dice);
-        let kind = 1 + self.dice.below(2);
+        let kind = self.kind();
         let fixed = self.frame.set(&mut self.dice);
         let value = self.frame.set(&mut self.dice) & fixed;
         Cube {
@@ -100,7 +110,7 @@ impl Maker {
     pub(crate) fn crowd(&mut self) -> Result<Vec<Cube>, AllocError> {
         let mut table = Vec::new(self.heap);
         for place in 0u16..4096 {
-            let kind = 1 + self.dice.below(2);
+            let kind = self.kind();
             let value = 2 * place + self.dice.below(2) as u16;
             table.push(Cube {
                 output: 0,

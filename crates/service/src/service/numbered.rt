@@ -13,7 +13,7 @@ use commands::{Answer, Command, Line};
 use design::Design;
 
 impl Ledger {
-    // The answer to a fresh command.
+    // The answer to a fresh command. A match and no closure: a command is logged and compared, as a closure could not be.
     fn decide(&mut self, command: Command) -> Answer
         ensures { Decided command self.old result self.new }
     {
