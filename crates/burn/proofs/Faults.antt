@@ -103,8 +103,12 @@ sum_said file b (by_sum c q l) p = let e : c ≡ b = cc in subst (LowestSum file
 sum_said file b (by_field c byte q l) p = absurd (cc)
 sum_said file b (sound n w s f c) p = absurd (no_cause c p (λ m e. cc))
 
+-- two places of which neither is below the other
+same_place : {b c : ℕ} → (c < b → ⊥) → (b < c → ⊥) → c ≡ b
+same_place {b} {c} f g = ⊎_elim (λ e. e) (⊎_elim (λ h. absurd (f h)) (λ h. absurd (g h))) (cases_order c b)
+
 one_sum : (file : List ℕ) (b c : ℕ) → LowestSum file b → LowestSum file c → c ≡ b
-one_sum file b c l m = ⊎_elim (λ e. e) (⊎_elim (λ h. absurd (m.wrong (l.before c h))) (λ h. absurd (l.wrong (m.before b h)))) (cases_order c b)
+one_sum file b c l m = same_place (λ h. m.wrong (l.before c h)) (λ h. l.wrong (m.before b h))
 
 sum_inside : (file : List ℕ) (b n : ℕ) → LowestSum file b → Whole file n → b < n
 sum_inside file b n l w = subst (λ (k : ℕ). b < k) (one_count file l.blocks n l.whole w) l.inside
@@ -128,10 +132,10 @@ kept_or_not : {t : Bool} → t ≡ true → t ≡ false → ⊥
 kept_or_not p q = true≢false (sym p ∙ q)
 
 one_block : (file : List ℕ) (b byte c k : ℕ) → LowestField file b byte → LowestField file c k → c ≡ b
-one_block file b byte c k l m = ⊎_elim (λ e. e) (⊎_elim (λ h. absurd (kept_or_not (l.blocks_before c k h) m.wrong)) (λ h. absurd (kept_or_not (m.blocks_before b byte h) l.wrong))) (cases_order c b)
+one_block file b byte c k l m = same_place (λ h. kept_or_not (l.blocks_before c k h) m.wrong) (λ h. kept_or_not (m.blocks_before b byte h) l.wrong)
 
 one_byte : (file : List ℕ) (b byte k : ℕ) → LowestField file b byte → LowestField file b k → k ≡ byte
-one_byte file b byte k l m = ⊎_elim (λ e. e) (⊎_elim (λ h. absurd (kept_or_not (l.before_it k h) m.wrong)) (λ h. absurd (kept_or_not (m.before_it byte h) l.wrong))) (cases_order k byte)
+one_byte file b byte k l m = same_place (λ h. kept_or_not (l.before_it k h) m.wrong) (λ h. kept_or_not (m.before_it byte h) l.wrong)
 
 field_named : (file : List ℕ) (b byte : ℕ) → Way file → LowestField file b byte → loaded file ≡ Err (BadField b byte)
 field_named file b byte (by_length q f) l = absurd (f l.blocks l.whole)

@@ -165,15 +165,10 @@ fields_ok file h es q =
     let k = entries_kept r.0.inputs file 1 (n - 1) t.0 t.1 in
     let eh : r.0 ≡ h = ap (λ x. x.0) e in
     let es-is : t.0 ≡ es = ap (λ x. x.1) e in
-    let c = counted_ok file n b.0 in
     let l : length es ≡ n - 1 = ap length (sym es-is) ∙ k.1 in
+    let c = counted_ok file n b.0 in
     let m : n ≡ length es + 1 = omega arith in
-    record {
-      counted_is = b.0 ∙ ap Ok m;
-      summed_all = ap (sums file 0) (sym m) ∙ b.1;
-      head_is = r.1 ∙ ap Ok eh;
-      entries_are = ap (λ x. entries_read x.inputs file 1 (length es)) (sym eh) ∙ (ap (entries_read r.0.inputs file 1) l ∙ (t.1 ∙ ap Ok es-is));
-    }
+    record { counted_is = cc; summed_all = cc; head_is = cc; entries_are = cc }
 
 -- what a file keeps where it was accepted as c
 pub record FileRead (file : List ℕ) (c : Contents) : Type 0 where
@@ -191,19 +186,16 @@ joined_ok file h es c f q =
     let p = then_ok (agreed h.outputs (length es) h.limit h.spent es) _ c q in
     let e = same_value p.2 in
     let a = agreed_ok h.outputs (length es) h.limit h.spent es p.1 in
-    let ee : es ≡ c.entries = ap (λ x. x.entries) e in
-    let ei : h.inputs ≡ c.inputs = ap (λ x. x.inputs) e in
-    let el : h.limit ≡ c.limit = ap (λ x. x.limit) e in
-    let et : h.spent ≡ c.spent = ap (λ x. x.spent) e in
+    let i : es ≡ c.entries = cc in
     record {
       head = h;
-      fields = subst (λ (x : List Entry). FieldsRead file h x) ee f;
-      as_many = a.0 ∙ ap length ee;
-      true_spent = ap (λ x. eqb x.spent (costs x.entries)) (sym e) ∙ a.1;
-      within_limit = ap (λ x. leb x.spent x.limit) (sym e) ∙ a.2;
-      inputs_is = ei;
-      limit_is = el;
-      spent_is = et;
+      fields = subst (λ (x : List Entry). FieldsRead file h x) i f;
+      as_many = cc;
+      true_spent = cc;
+      within_limit = cc;
+      inputs_is = cc;
+      limit_is = cc;
+      spent_is = cc;
     }
 
 pub loaded_ok : (file : List ℕ) (c : Contents) → loaded file ≡ Ok c → FileRead file c

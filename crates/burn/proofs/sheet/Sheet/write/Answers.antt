@@ -4,9 +4,6 @@ use Rattle.burn.specs.Files.{contents, needed}
 use Rattle.burn.proofs.Writes.{length_sealed, file_over}
 use Rattle.burn.proofs.sheet.Sheet.write.Goals as goal
 
-pub slice_bounds-copy_from_slice-end : goal.slice_bounds-copy_from_slice-end
-slice_bounds-copy_from_slice-end c = omega arith
-
 pub copy_from_slice-requires : goal.copy_from_slice-requires
 copy_from_slice-requires c =
     let n : length c.first_block-first.result ≡ 512 = ap length c.first_block-first.ensures ∙ length_sealed _ refl in
