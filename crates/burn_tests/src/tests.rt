@@ -163,10 +163,12 @@ fn refusal(
     Ok(Sheet::new(3, limit, spent, Vec::from_slice(heap, entries)?).err())
 }
 
+// A field by its block and first byte.
 fn bad_field(block: u32, byte: u32) -> Option<Refusal> {
     Some(Refusal::BadField { block, byte })
 }
 
+// A rule that the fields break together.
 fn bad_cause(cause: Cause) -> Option<Refusal> {
     Some(Refusal::BadCause { cause })
 }
