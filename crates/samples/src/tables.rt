@@ -1,5 +1,4 @@
 // One small function of three inputs as a cover and as a diagram: the odd rows are on, row 6 is a don't-care.
-ghost use Rattle.std.specs.Prelude.{Ok};
 ghost use Rattle.cover.specs.Covers.{told};
 ghost use Rattle.cover.specs.Figures.{small_table};
 ghost use Rattle.diagram.specs.Meaning.{tabled};
