@@ -15,7 +15,7 @@ struct Drawings {
     rows: Outcome,
 }
 
-// Sums of drawings, as of outcomes: `sum` asks an impl of each type that is summed.
+// Two counts together. `sum` asks an impl of each type that is summed, as outcomes have theirs.
 impl Add for Drawings {
     type Output = Drawings;
 
@@ -28,12 +28,14 @@ impl Add for Drawings {
     }
 }
 
+// All of a list together.
 impl Sum<Drawings> for Drawings {
     fn sum<I: Iterator<Item = Drawings>>(iter: I) -> Drawings {
         iter.fold(Drawings::default(), |total, one| total + one)
     }
 }
 
+// The counts in one line.
 impl fmt::Display for Drawings {
     fn fmt<W: fmt::Write>(&self, f: &mut fmt::Formatter<W>) -> fmt::Result {
         let Drawings { drawn, nodes, rows } = *self;

@@ -8,8 +8,10 @@ use rules::Call;
 use service::{Service, run};
 use std::io;
 
+// What the service is opened with.
 pub(crate) const LIMIT: u32 = 200;
 
+// A price for each output.
 pub(crate) const PRICES: [u32; 2] = [2, 1];
 
 // The calls of the whole list.

@@ -25,6 +25,7 @@ impl From<bool> for Outcome {
     }
 }
 
+// Two outcomes together.
 impl Add for Outcome {
     type Output = Outcome;
 
@@ -38,6 +39,7 @@ impl Add for Outcome {
     }
 }
 
+// The same in place.
 impl AddAssign for Outcome {
     ghost add_assign_gives = { λ a b r. r ≡ both a b };
 
@@ -46,6 +48,7 @@ impl AddAssign for Outcome {
     }
 }
 
+// All of a list together.
 impl Sum<Outcome> for Outcome {
     ghost sum_gives = { λ outcomes r. r ≡ fold both nothing outcomes };
 
