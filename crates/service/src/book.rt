@@ -1,5 +1,5 @@
 // Fresh commands, as the ledger decides them.
-ghost use Rattle.std.specs.Prelude.{◌≡◌, ◌*◌, ◌<◌, ◌≤◌, true, false, length, IfOk};
+ghost use Rattle.std.specs.Prelude.{◌≡◌, ◌*◌, ◌≤◌, true, false};
 ghost use Rattle.commands.specs.declared.command.Answer.TheVariants.{Taken, PutBack};
 ghost use Rattle.service.specs.Books.{account_at, with_taken, answered, take_answer, back_answer, accounts_after, spent_after};
 
@@ -21,7 +21,6 @@ impl Ledger {
     // The account of an output.
     pub(crate) fn account(&self, output: u32) -> Result<Account, Refusal>
         ensures answer { result ≡ account_at self.now output }
-        ensures there { IfOk result (λ _. output < length self.now.accounts.items) }
     {
         self.accounts
             .get(output as usize)
@@ -32,7 +31,6 @@ impl Ledger {
     // What is spent once an output is taken, if it is there, not taken, and within the limit.
     fn spent_with(&self, output: u32) -> Result<u32, Refusal>
         ensures answer { answered Taken result ≡ take_answer self.now output }
-        ensures there { IfOk result (λ _. output < length self.now.accounts.items) }
     {
         let account = self.account(output)?;
         if account.taken {
@@ -42,7 +40,7 @@ impl Ledger {
         let total = u64::from(self.spent) + account.cost();
         if total > limit {
             return Err(Refusal::OverLimit {
-                excess: (total - limit).min(4294967295) as u32,
+                excess: u32::try_from(total - limit).unwrap_or(u32::MAX),
             });
         }
         Ok(total as u32)
@@ -51,7 +49,6 @@ impl Ledger {
     // What is spent once an output is put back, if it is there and taken.
     fn spent_without(&self, output: u32) -> Result<u32, Refusal>
         ensures answer { answered PutBack result ≡ back_answer self.now output }
-        ensures there { IfOk result (λ _. output < length self.now.accounts.items) }
     {
         let account = self.account(output)?;
         if !account.taken {
@@ -60,19 +57,20 @@ impl Ledger {
         Ok(u64::from(self.spent).saturating_sub(account.cost()) as u32)
     }
 
-    // Writes down whether an output is taken, and what is then spent.
+    // Writes down whether an output is taken, and what is then spent. One that is not there has no account to change.
     fn enter(&mut self, output: u32, taken: bool, spent: u32)
-        requires { output < length self.old.accounts.items }
         ensures accounts { self.new.accounts.items ≡ with_taken self.old output taken }
         ensures spent { self.new.spent ≡ spent }
         ensures limit { self.new.limit ≡ self.old.limit }
     {
-        self.accounts[output as usize].taken = taken;
+        if let Some(account) = self.accounts.get_mut(output as usize) {
+            account.taken = taken;
+        }
         self.spent = spent;
     }
 
-    // Takes an output, and tells what is then spent. `back` does likewise: one method for both would have to be given the other
-    // one's reckoning and flag.
+    // Takes an output, and tells what is then spent. `back` does likewise with its own reckoning and flag: one method for both
+    // would have to be given these two, which is all that either says.
     pub(crate) fn take(&mut self, output: u32) -> Result<u32, Refusal>
         ensures answer { answered Taken result ≡ take_answer self.old output }
         ensures accounts { self.new.accounts.items ≡ accounts_after self.old output (answered Taken result) }
