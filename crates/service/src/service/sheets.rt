@@ -19,7 +19,7 @@ impl Account {
         ensures { result ≡ entry_from self.now }
     {
         Entry {
-            price: self.price.min(255) as u8,
+            price: u8::try_from(self.price).unwrap_or(255),
             taken: self.taken,
             vector: self.vector.bits(),
             wrong: self.wrong,
