@@ -77,7 +77,7 @@ pub fn run<D: Design + Drop>(
 {
     let mut service = Service::open(heap, design, limit, prices)?;
     let mut replies = Vec::new(heap);
-    // A loop: of a closure that changes the service, as one in a chain here would, nothing would be known.
+    // A `for` with `?`: the plain form where each item may fail and changes the service.
     for call in calls {
         replies.push(reply_to(heap, &mut service, *call)?)?;
     }

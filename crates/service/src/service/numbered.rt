@@ -43,7 +43,7 @@ impl<D: Design + Drop> Service<D> {
         answer
     }
 
-    // Takes an output, under the number of the command.
+    // Takes an output, under the number of the command. `back` is the same with the other command: two public names of one `obey`.
     pub fn take(&mut self, number: u32, output: u32) -> Answer
         ensures answer { result ≡ numbered (account (terms_of self.old)) (lines_of self.old) number (Take output) }
         ensures lines { lines_of self.new ≡ logged (account (terms_of self.old)) (lines_of self.old) number (Take output) }
