@@ -1,5 +1,5 @@
 -- The entries of a service keep the rules of a burn sheet.
-use Rattle.std.proofs.Common.{◌≡◌, ℕ, zero, suc, ◌+◌, ◌-◌, ◌/◌, ◌^◌, ◌<◌, ◌≤◌, min, Bool, true, cond, ◌&&◌, eqb, leb, List, [], ◌∷◌, ◌++◌, map, length, get_or, Ok, Err, vec_items, Result, sym, refl, ap, ◌∙◌, ⊎_elim, add-zero, add_assoc, zero-add, arith}
+use Rattle.std.proofs.Common.{◌≡◌, ℕ, zero, suc, ◌+◌, ◌-◌, ◌/◌, ◌^◌, ◌<◌, ◌≤◌, Bool, true, cond, ◌&&◌, eqb, leb, List, [], ◌∷◌, ◌++◌, map, length, get_or, Ok, Err, vec_items, Result, sym, refl, ap, ◌∙◌, ⊎_elim, add-zero, add_assoc, zero-add, arith}
 use native.Mathlib.Nat.{div-eq_of_lt}
 use Rattle.std.proofs.lemmas.List.{length_push, length-map, get_or-map, get_or_append_left, get_or_at, ext_get_or}
 use Rattle.std.proofs.lemmas.Bool.{eq-eqb, le-leb, and_from, and_parts, cases_order}
@@ -103,18 +103,17 @@ same_fields : {p q v x w y : ℕ} {j k : Bool} → p ≡ q → j ≡ k → v ≡
 same_fields {p} {q} {v} {x} {w} {y} {j} {k} ep ek ev ew = ap (λ n. entry n j v w) ep ∙ (ap (λ n. entry q n v w) ek ∙ (ap (λ n. entry q k n w) ev ∙ ap (λ n. entry q k x n) ew))
 
 -- an account that says what the rules say has the output's entry
-same_entry : (t : Terms) (lines : List Line) (o : ℕ) (a : Account) → Accounted t lines o a → (1 ≤ price t o) × (price t o ≤ 255) → entry_from a ≡ entry_of t lines o
-same_entry t lines o a r q =
-    let e : min a.price 255 ≡ price t o = omega (arith, r.priced, q.1) in
-    same_fields e r.moved (ap (λ (x : Values). x.bits) r.vector) r.errors
+same_entry : (t : Terms) (lines : List Line) (o : ℕ) (a : Account) → Accounted t lines o a → entry_from a ≡ entry_of t lines o
+same_entry t lines o a r =
+    same_fields r.priced r.moved (ap (λ (x : Values). x.bits) r.vector) r.errors
 
 -- the accounts' entries are those
-pub accounts_listed : (t : Terms) (lines : List Line) (ledger : Ledger) → Booked t lines ledger → Priced t → map entry_from (vec_items ledger.accounts) ≡ entries_below t lines t.meaning.outputs
-accounts_listed t lines ledger b p =
+pub accounts_listed : (t : Terms) (lines : List Line) (ledger : Ledger) → Booked t lines ledger → map entry_from (vec_items ledger.accounts) ≡ entries_below t lines t.meaning.outputs
+accounts_listed t lines ledger b =
     let xs = vec_items ledger.accounts in
     let l : length (map entry_from xs) ≡ t.meaning.outputs = length-map xs entry_from ∙ b.outputs in
     ext_get_or no_entry (map entry_from xs) (entries_below t lines t.meaning.outputs) (l ∙ sym (length_below t lines t.meaning.outputs))
-    (λ o h. get_or-map entry_from xs o no_account no_entry (omega (arith, b.outputs)) ∙ (same_entry t lines o (get_or xs o no_account) (b.accounts no_account o (omega arith)) (p o (omega arith)) ∙ sym (at_below t lines t.meaning.outputs o (omega arith))))
+    (λ o h. get_or-map entry_from xs o no_account no_entry (omega (arith, b.outputs)) ∙ (same_entry t lines o (get_or xs o no_account) (b.accounts no_account o (omega arith)) ∙ sym (at_below t lines t.meaning.outputs o (omega arith))))
 
 abbrev values : ℕ → ℕ → ℕ → List Entry → Contents
 values n l s es = record { inputs = n; limit = l; spent = s; entries = es }
@@ -128,5 +127,5 @@ pub sheet_told : (m : Meaning) (lines : List Line) (ledger : Ledger) (size : Siz
 sheet_told m lines ledger size es r sound stands q e told_is =
     let t = terms_in m ledger in
     let p = opened_priced t stands.opens in
-    let x : es ≡ entries_below t lines m.outputs = e ∙ accounts_listed t lines ledger stands.books p in
+    let x : es ≡ entries_below t lines m.outputs = e ∙ accounts_listed t lines ledger stands.books in
     told_is ∙ (ap checked (same_values (ap (λ (z : Size). z.inputs) q) refl stands.books.spends x) ∙ sheet_kept t lines sound p stands.kept)

@@ -1,6 +1,6 @@
 -- The burn sheet of a service, from its terms and the log lines so far: for whoever burns a chip of it.
 -- A price fits a byte, since an opening passes 1 to 255 alone.
-use Rattle.std.specs.Prelude.{◌≡◌, ℕ, zero, suc, min, ◌⊎◌, List, [], ◌∷◌, ◌++◌, Ok, Err, Result}
+use Rattle.std.specs.Prelude.{◌≡◌, ℕ, zero, suc, ◌⊎◌, List, [], ◌∷◌, ◌++◌, Ok, Err, Result}
 use Rattle.refusal.specs.declared.table.Refusal.{Refusal}
 use Rattle.refusal.specs.declared.table.Refusal.TheVariants.{NoMemory}
 use Rattle.design.specs.Meaning.{Meaning}
@@ -29,9 +29,9 @@ entries_below t lines (suc k) = entries_below t lines k ++ entry_of t lines k �
 abbrev pub sheet_of : Terms → List Line → Contents
 sheet_of t lines = record { inputs = t.meaning.inputs; limit = t.limit; spent = spent lines; entries = entries_below t lines t.meaning.outputs }
 
--- an account as an entry; a price fits a byte
+-- an account as an entry
 abbrev pub entry_from : Account → Entry
-entry_from a = record { price = min a.price 255; taken = a.taken; vector = a.vector.bits; wrong = a.wrong }
+entry_from a = record { price = a.price; taken = a.taken; vector = a.vector.bits; wrong = a.wrong }
 
 -- where the opening on these terms is not refused, the sheet, or none for want of memory
 abbrev pub Sheeted : {D : Type 0} {d : _} → (D → Meaning) → Service D d → Result Sheet Refusal → Type 0

@@ -11,7 +11,7 @@ impl Account {
     // What taking the output costs: its price for each wrong row.
     pub(crate) fn cost(&self) -> u64
         ensures cost { result ≡ self.now.price * self.now.wrong }
-        ensures small { result ≤ 18446744065119617025 }
+        ensures small { result ≤ 1095216660225 }
     {
         u64::from(self.price) * u64::from(self.wrong)
     }

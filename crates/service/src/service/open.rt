@@ -43,7 +43,7 @@ fn check_prices(outputs: u32, prices: &[u32]) -> Result<(), Refusal>
     }
 }
 
-// The accounts of all outputs. At most 255 × 32,768 each, their costs together never pass 32 bits.
+// The accounts of all outputs; a price that passed fits a byte. At most 255 × 32,768 each, their costs together never pass 32 bits.
 fn open_accounts<D: Design>(
     heap: Global,
     design: &D,
@@ -56,7 +56,7 @@ fn open_accounts<D: Design>(
     for (output, price) in prices.iter().enumerate() {
         let Nearest { vector, wrong } = nearest(design, output as u32)?;
         accounts.push_reserved(Account {
-            price: *price,
+            price: *price as u8,
             vector,
             wrong,
             taken: false,

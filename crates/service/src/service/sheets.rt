@@ -19,7 +19,7 @@ impl Account {
         ensures { result ≡ entry_from self.now }
     {
         Entry {
-            price: u8::try_from(self.price).unwrap_or(255),
+            price: self.price,
             taken: self.taken,
             vector: self.vector.bits(),
             wrong: self.wrong,

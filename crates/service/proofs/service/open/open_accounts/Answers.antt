@@ -14,6 +14,14 @@ overflow_cast-output g c =
     let few = (g.met.D.Design.sound c.args.design.now).few_outputs in
     omega arith
 
+pub overflow_cast-price : goal.overflow_cast-price
+overflow_cast-price g c =
+    let m : Meaning = g.D.Design.meaning c.args.design.now in
+    let f = passed_fair m.outputs c.args.prices.now c.requires in
+    let n = f.many in
+    let most = (f.each c.loop-output.output (omega arith)).most in
+    omega arith
+
 pub push_reserved-requires : goal.push_reserved-requires
 push_reserved-requires g c =
     let m : Meaning = g.D.Design.meaning c.args.design.now in
