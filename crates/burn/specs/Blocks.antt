@@ -56,6 +56,10 @@ sums file b (suc n) = then (summed b (block file b)) (λ _. sums file (b + 1) n)
 abbrev pub taken_apart : List ℕ → Fields
 taken_apart xs = record { kind = slice_index xs 0; number = slice_index xs 1; first = slice_index xs 2; second = slice_index xs 3; low = little xs 4; high = little xs 8 }
 
+-- fields, laid out as such bytes
+abbrev pub laid_out : Fields → List ℕ
+laid_out f = f.kind ∷ f.number ∷ f.first ∷ f.second ∷ (bytes4 f.low ++ bytes4 f.high)
+
 -- goes on where a field keeps its rule, else names the block and the field's first byte
 abbrev pub field : {X : Type 0} → ℕ → ℕ → Bool → Result X Refusal → Result X Refusal
 field b byte kept rest = cond kept rest (Err (BadField b byte))

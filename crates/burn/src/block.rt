@@ -2,9 +2,10 @@
 ghost use Rattle.std.specs.Prelude.{◌≡◌, ◌≤◌, ◌++◌, length, take, replicate, Ok, Err, MatchResult};
 ghost use Rattle.std.specs.List.{concat};
 ghost use Rattle.std.specs.Simd.{first_chunks};
-ghost use Rattle.burn.specs.Blocks.{weighed, sealed, summed, sums};
+ghost use Rattle.burn.specs.Blocks.{weighed, laid_out, sealed, summed, sums};
 ghost use Rattle.burn.specs.Files.{counted};
 
+use crate::entry::Fields;
 use refusal::Refusal;
 
 // The length of a block.
@@ -41,11 +42,28 @@ fn padded(first: [u8; 12]) -> Block
     block
 }
 
-// A block from its first twelve bytes: zeros behind them, then the sum.
-pub fn closed(first: [u8; 12]) -> Block
-    ensures { result ≡ sealed first }
+// The first twelve bytes of a block, from its fields.
+fn lay_out(fields: Fields) -> [u8; 12]
+    ensures { result ≡ laid_out fields }
 {
-    let mut block = padded(first);
+    let Fields {
+        kind,
+        number,
+        first,
+        second,
+        low,
+        high,
+    } = fields;
+    let [a, b, c, d] = low.to_le_bytes();
+    let [e, f, g, h] = high.to_le_bytes();
+    [kind, number, first, second, a, b, c, d, e, f, g, h]
+}
+
+// A block from its fields: their bytes, zeros behind them, then the sum.
+pub fn closed(fields: Fields) -> Block
+    ensures { result ≡ sealed (laid_out fields) }
+{
+    let mut block = padded(lay_out(fields));
     let sum = weighted_sum(&block);
     block[508..].copy_from_slice(&sum.to_le_bytes());
     block

@@ -21,6 +21,12 @@ pub struct Head {
     pub spent: u32,
 }
 
+// The kind of block 0.
+pub const HEAD: u8 = 1;
+
+// The kind of an output's block.
+pub const OUTPUT: u8 = 2;
+
 // The first twelve bytes of a block: four bytes, then two numbers of four bytes each. The kind is a byte and no enum: a file
 // may hold any, and one that is not the block's is refused by its place.
 #[derive(Clone, Copy)]

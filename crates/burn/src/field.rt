@@ -4,7 +4,7 @@ ghost use Rattle.burn.specs.Blocks.{taken_apart, zeros};
 ghost use Rattle.burn.specs.Files.{head_read, entry_read};
 
 use crate::block::Block;
-use crate::entry::{Entry, Fields, Head};
+use crate::entry::{Entry, Fields, HEAD, Head, OUTPUT};
 use crate::rule::Inputs;
 use refusal::Refusal;
 
@@ -41,7 +41,7 @@ pub fn read_head(block: &Block) -> Result<Head, Refusal>
     ensures { result ≡ head_read block.now }
 {
     let fields = open(block);
-    if fields.kind != 1 {
+    if fields.kind != HEAD {
         return Err(Refusal::BadField { block: 0, byte: 0 });
     }
     if fields.number != 0 {
@@ -65,7 +65,7 @@ pub fn read_entry(bytes: &Block, block: u32, inputs: Inputs) -> Result<Entry, Re
     ensures { result ≡ entry_read inputs block bytes.now }
 {
     let fields = open(bytes);
-    if fields.kind != 2 {
+    if fields.kind != OUTPUT {
         return Err(Refusal::BadField { block, byte: 0 });
     }
     if u32::from(fields.number) != block {

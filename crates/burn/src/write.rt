@@ -3,7 +3,7 @@ ghost use Rattle.std.specs.Prelude.{◌≡◌, ◌*◌, length};
 ghost use Rattle.burn.specs.Files.{contents, head_block, entry_block, entry_blocks, write_answer, overwritten};
 
 use crate::block::{BLOCK, Block, closed};
-use crate::entry::Entry;
+use crate::entry::{Entry, Fields, HEAD, OUTPUT};
 use crate::sheet::Sheet;
 use refusal::Refusal;
 
@@ -11,10 +11,14 @@ use refusal::Refusal;
 fn block_of(entry: &Entry, number: u8) -> Block
     ensures { result ≡ entry_block number entry.now }
 {
-    let taken = u8::from(entry.taken);
-    let [a, b, c, d] = entry.vector.to_le_bytes();
-    let [e, f, g, h] = entry.wrong.to_le_bytes();
-    closed([2, number, entry.price, taken, a, b, c, d, e, f, g, h])
+    closed(Fields {
+        kind: OUTPUT,
+        number,
+        first: entry.price,
+        second: u8::from(entry.taken),
+        low: entry.vector,
+        high: entry.wrong,
+    })
 }
 
 impl Sheet {
@@ -22,11 +26,14 @@ impl Sheet {
     fn first_block(&self) -> Block
         ensures { result ≡ head_block (contents self.now) }
     {
-        let [a, b, c, d] = self.limit.to_le_bytes();
-        let [e, f, g, h] = self.spent.to_le_bytes();
-        let inputs = self.inputs.count() as u8;
-        let outputs = self.entries.len() as u8;
-        closed([1, 0, inputs, outputs, a, b, c, d, e, f, g, h])
+        closed(Fields {
+            kind: HEAD,
+            number: 0,
+            first: self.inputs.count() as u8,
+            second: self.entries.len() as u8,
+            low: self.limit,
+            high: self.spent,
+        })
     }
 
     // The blocks of all outputs, over a part that is as long as they are.
