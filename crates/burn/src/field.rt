@@ -60,7 +60,8 @@ pub fn read_head(block: &Block) -> Result<Head, Refusal>
     })
 }
 
-// The block of an output: price, taken, value vector, wrong count.
+// The block of an output: price, taken, value vector, wrong count. `check_entry` tries all but taken as well: a call of it here
+// would not name the lowest field, since byte 3 lies between the others.
 pub fn read_entry(bytes: &Block, block: u32, inputs: Inputs) -> Result<Entry, Refusal>
     ensures { result ≡ entry_read inputs block bytes.now }
 {

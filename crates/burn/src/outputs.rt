@@ -25,7 +25,8 @@ fn cost_of(entry: &Entry) -> u64
     }
 }
 
-// Refuses the lowest field of one output, in its block, that breaks its rule.
+// Refuses the lowest field of one output, in its block, that breaks its rule. Of a file, `read_entry`
+// tries these and byte 3 between them.
 fn check_entry(entry: &Entry, block: u32, inputs: Inputs) -> Result<(), Refusal>
     ensures { result ≡ entry_checked inputs block entry.now }
 {

@@ -12,6 +12,7 @@ pub struct Inputs {
     count: u32,
 }
 
+// In proofs the inputs are their number.
 impl Model for Inputs {
     ghost use Rattle.std.specs.Prelude.{ℕ, ◌≤◌};
     ghost use Rattle.std.specs.Coded.{coded_ℕ};

@@ -50,6 +50,7 @@ impl Sheet {
     }
 
     // Writes the file into the front of a buffer and answers its length; a buffer that is too short stays as it is.
+    // The buffer is lent by the burner, and may be longer: so the length is answered beside it.
     pub fn write(&self, buffer: &mut [u8]) -> Result<usize, Refusal>
         ensures answer { result ≡ write_answer (contents self.now) buffer.old }
         ensures after { buffer.new ≡ overwritten (contents self.now) buffer.old }
