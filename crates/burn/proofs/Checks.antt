@@ -1,6 +1,5 @@
 -- The values of a sheet, checked one by one.
-use Rattle.std.proofs.Common.{◌≡◌, ℕ, ◌+◌, ◌<◌, ◌≤◌, true, ◌&&◌, leb, List, [], ◌∷◌, length, get_or, drop, Ok, Result, sym, refl, ap, ◌∙◌}
-use Rattle.std.proofs.lemmas.List.{at_drop_more, at_drop_all}
+use Rattle.std.proofs.Common.{◌≡◌, ℕ, ◌+◌, ◌≤◌, true, ◌&&◌, leb, List, [], ◌∷◌, length, Ok, Result, sym, refl, ap, ◌∙◌, arith}
 use Rattle.std.proofs.lemmas.Bool.{and_from, and_parts, le-leb, leb-true}
 use Rattle.refusal.specs.declared.table.Refusal.{Refusal}
 use Rattle.burn.specs.Blocks.{then, field}
@@ -9,14 +8,17 @@ use Rattle.burn.specs.declared.entry.Entry.{Entry}
 use Rattle.burn.proofs.Loads.{same_value, then_ok, field_ok, agreed_ok}
 
 -- what is left to check, by what the next output answered
-pub checks_by : (inputs : ℕ) (es : List Entry) (i : ℕ) (d : Entry) (r : Result (Unit {0}) Refusal) → i < length es → r ≡ entry_checked inputs (i + 1) (get_or es i d) → entries_checked inputs (i + 1) (drop i es) ≡ then r (λ _. entries_checked inputs (i + 1 + 1) (drop (i + 1) es))
+pub checks_by : (inputs from b next : ℕ) (e : Entry) (es rest : List Entry) (r : Result (Unit {0}) Refusal) → b ≡ from → next ≡ b + 1 → es ≡ e ∷ rest → r ≡ entry_checked inputs b e → entries_checked inputs from es ≡ then r (λ _. entries_checked inputs next rest)
 unfolding entries_checked
-checks_by inputs es i d r h q = at_drop_more (entries_checked inputs (i + 1)) es i d h ∙ ap (λ x. then x (λ _. entries_checked inputs (i + 1 + 1) (drop (i + 1) es))) (sym q)
+checks_by inputs from b next e es rest r f n l q =
+    ap (λ k. entries_checked inputs k es) (sym f) ∙ (ap (entries_checked inputs b) l
+    ∙ (ap (λ x. then x (λ _. entries_checked inputs (b + 1) rest)) (sym q) ∙ ap (λ k. then r (λ _. entries_checked inputs k rest)) (sym n)))
 
 -- nothing left
-pub checks_all : (inputs : ℕ) (es : List Entry) (i : ℕ) → length es ≤ i → entries_checked inputs (i + 1) (drop i es) ≡ Ok tt
+pub checks_all : (inputs b : ℕ) (es : List Entry) → length es ≡ 0 → entries_checked inputs b es ≡ Ok tt
 unfolding entries_checked
-checks_all inputs es i h = at_drop_all (entries_checked inputs (i + 1)) es i h
+checks_all inputs b [] h = refl
+checks_all inputs b (e ∷ es) h = absurd (omega arith)
 
 -- an output that was passed keeps its rules, and so do all of them
 pub entry_passed : (inputs b : ℕ) (e : Entry) → entry_checked inputs b e ≡ Ok tt → entry_keeps inputs e ≡ true

@@ -54,8 +54,8 @@ impl<'a> Outputs<'a> {
     pub fn check(&self, inputs: Inputs) -> Result<(), Refusal>
         ensures { result ≡ entries_checked inputs 1 self.now.entries.now }
     {
-        for (index, entry) in self.entries.iter().enumerate() {
-            check_entry(entry, index as u32 + 1, inputs)?;
+        for (block, entry) in (1u32..).zip(self.entries) {
+            check_entry(entry, block, inputs)?;
         }
         Ok(())
     }

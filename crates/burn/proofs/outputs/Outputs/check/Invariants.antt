@@ -1,7 +1,7 @@
-use Rattle.std.proofs.Common.{◌≡◌, ◌+◌, drop}
+use Rattle.std.proofs.Common.{◌≡◌, ◌+◌, ◌≤◌, length}
 use Rattle.burn.specs.Rules.{entries_checked}
 use Rattle.burn.proofs.outputs.Outputs.check.Given as goal
 
 -- what is left decides
-abbrev pub invariant-loop-index : goal.invariant-loop-index
-invariant-loop-index l = entries_checked l.inputs (l.index + 1) (drop l.index l.self.entries.now) ≡ entries_checked l.inputs 1 l.self.entries.now
+abbrev pub invariant-loop-block : goal.invariant-loop-block
+invariant-loop-block l = (l.block-iterator.a.start + length l.block-iterator.b.rest.now ≤ 9) × (entries_checked l.inputs l.block-iterator.a.start l.block-iterator.b.rest.now ≡ entries_checked l.inputs 1 l.self.entries.now)
