@@ -1,8 +1,8 @@
 -- The outputs of a file, read block by block.
-use Rattle.std.proofs.Common.{◌≡◌, ℕ, suc, ◌+◌, ◌-◌, ◌<◌, ◌≤◌, List, [], ◌∷◌, ◌++◌, length, get_or, take, drop, Ok, Err, Result, sym, refl, ap, ◌∙◌, append_assoc, arith}
+use Rattle.std.proofs.Common.{◌≡◌, ℕ, suc, ◌+◌, ◌-◌, ◌<◌, List, [], ◌∷◌, ◌++◌, length, get_or, drop, Ok, Err, Result, sym, refl, ap, ◌∙◌, append_assoc, add-zero, arith}
 use Rattle.std.specs.List.{concat}
 use Rattle.std.specs.Simd.{first_chunks}
-use Rattle.std.proofs.lemmas.List.{append-nil, get_or-take, get_or-drop}
+use Rattle.std.proofs.lemmas.List.{append-nil, get_or-drop, length-drop, drop-drop}
 use Rattle.refusal.specs.declared.table.Refusal.{Refusal}
 use Rattle.burn.specs.Blocks.{block, then}
 use Rattle.burn.specs.Files.{entry_read, entries_read}
@@ -18,26 +18,38 @@ ahead_push : (xs : List Entry) (e : Entry) (r : Result (List Entry) Refusal) →
 ahead_push xs e (Ok es) = ap Ok (sym (append_assoc xs (e ∷ []) es))
 ahead_push xs e (Err x) = refl
 
--- outputs from one on, of the blocks behind the first
+-- outputs from block b on
 abbrev pub outputs_from : ℕ → List (List ℕ) → ℕ → Result (List Entry) Refusal
-outputs_from inputs bs i = entries_read inputs (concat bs) (i + 1) (length bs - 1 - i)
+outputs_from inputs bs b = entries_read inputs (concat bs) b (length bs - b)
 
-module _ (all : Result (List Entry) Refusal) (inputs : ℕ) (bs : List (List ℕ)) (i : ℕ) (xs : List Entry) where
-  -- what is left, by what the next block was read as
-  left_by : (d : List ℕ) (r : Result Entry Refusal) → i < length bs - 1 → bs ≡ first_chunks 512 (length bs) (concat bs) → r ≡ entry_read inputs (i + 1) (get_or (take (length bs - 1) (drop 1 bs)) i d) → outputs_from inputs bs i ≡ then r (λ e. then (outputs_from inputs bs (i + 1)) (λ es. Ok (e ∷ es)))
+module _ (bs rest : List (List ℕ)) (x : List ℕ) (b number next : ℕ) where
+  -- the block that comes first of those from block b on, and those behind it
+  pub next_block : number ≡ b → next ≡ number + 1 → x ∷ rest ≡ drop b bs → (b < length bs) × (x ≡ get_or bs b []) × (rest ≡ drop next bs)
+  next_block f n q =
+      let l = ap length q ∙ length-drop b bs in
+      let v : b + 1 ≡ next = omega arith in
+      (omega (arith, l), ap (λ ys. get_or ys 0 []) q ∙ (get_or-drop b bs 0 [] ∙ ap (λ k. get_or bs k []) (add-zero b)), ap (drop 1) q ∙ (drop-drop 1 b bs ∙ ap (λ k. drop k bs) v))
+
+  -- what is left, by what that block was read as
+  left_by : (inputs : ℕ) (r : Result Entry Refusal) → bs ≡ first_chunks 512 (length bs) (concat bs) → number ≡ b → next ≡ number + 1 → x ∷ rest ≡ drop b bs → r ≡ entry_read inputs number x → outputs_from inputs bs b ≡ then r (λ e. then (outputs_from inputs bs next) (λ es. Ok (e ∷ es)))
   unfolding entries_read
-  left_by d r h w q =
-      let e : 1 + i ≡ i + 1 = omega arith in
-      let m : length bs - 1 - i ≡ suc (length bs - 1 - (i + 1)) = omega arith in
-      let b : get_or (take (length bs - 1) (drop 1 bs)) i d ≡ block (concat bs) (i + 1) = get_or-take (length bs - 1) (drop 1 bs) i d h ∙ (get_or-drop 1 bs i d ∙ (ap (λ k. get_or bs k d) e ∙ block_of bs (i + 1) d (omega arith) w)) in
-      ap (entries_read inputs (concat bs) (i + 1)) m ∙ ap (λ x. then x (λ e. then (outputs_from inputs bs (i + 1)) (λ es. Ok (e ∷ es)))) (sym (q ∙ ap (entry_read inputs (i + 1)) b))
+  left_by inputs r w f n q e =
+      let t = next_block f n q in
+      let m : length bs - b ≡ suc (length bs - next) = omega (arith, t.0) in
+      let v : b + 1 ≡ next = omega arith in
+      let g : r ≡ entry_read inputs b (block (concat bs) b) = e ∙ (ap (λ k. entry_read inputs k x) f ∙ ap (entry_read inputs b) (t.1 ∙ block_of bs b [] t.0 w)) in
+      let after : ℕ → Entry → Result (List Entry) Refusal = λ k a. then (entries_read inputs (concat bs) k (length bs - next)) (λ es. Ok (a ∷ es)) in
+      ap (entries_read inputs (concat bs) b) m ∙ (ap (λ y. then y (after (b + 1))) (sym g) ∙ ap (λ k. then r (after k)) v)
 
-  pub entries_goes : (d : List ℕ) (e : Entry) → i < length bs - 1 → bs ≡ first_chunks 512 (length bs) (concat bs) → Ok e ≡ entry_read inputs (i + 1) (get_or (take (length bs - 1) (drop 1 bs)) i d) → all ≡ ahead xs (outputs_from inputs bs i) → all ≡ ahead (xs ++ e ∷ []) (outputs_from inputs bs (i + 1))
-  entries_goes d e h w q a = a ∙ (ap (ahead xs) (left_by d (Ok e) h w q) ∙ ahead_push xs e (outputs_from inputs bs (i + 1)))
+  pub entries_goes : (all : Result (List Entry) Refusal) (inputs : ℕ) (xs : List Entry) (e : Entry) → bs ≡ first_chunks 512 (length bs) (concat bs) → number ≡ b → next ≡ number + 1 → x ∷ rest ≡ drop b bs → Ok e ≡ entry_read inputs number x → all ≡ ahead xs (outputs_from inputs bs b) → all ≡ ahead (xs ++ e ∷ []) (outputs_from inputs bs next)
+  entries_goes all inputs xs e w f n q r a = a ∙ (ap (ahead xs) (left_by inputs (Ok e) w f n q r) ∙ ahead_push xs e (outputs_from inputs bs next))
 
-  pub entries_stop : (d : List ℕ) (e : Refusal) → i < length bs - 1 → bs ≡ first_chunks 512 (length bs) (concat bs) → Err e ≡ entry_read inputs (i + 1) (get_or (take (length bs - 1) (drop 1 bs)) i d) → all ≡ ahead xs (outputs_from inputs bs i) → all ≡ Err e
-  entries_stop d e h w q a = a ∙ ap (ahead xs) (left_by d (Err e) h w q)
+  pub entries_stop : (all : Result (List Entry) Refusal) (inputs : ℕ) (xs : List Entry) (e : Refusal) → bs ≡ first_chunks 512 (length bs) (concat bs) → number ≡ b → next ≡ number + 1 → x ∷ rest ≡ drop b bs → Err e ≡ entry_read inputs number x → all ≡ ahead xs (outputs_from inputs bs b) → all ≡ Err e
+  entries_stop all inputs xs e w f n q r a = a ∙ ap (ahead xs) (left_by inputs (Err e) w f n q r)
 
-  pub entries_end : length bs - 1 ≤ i → all ≡ ahead xs (outputs_from inputs bs i) → all ≡ Ok xs
-  unfolding entries_read
-  entries_end h a = let e : length bs - 1 - i ≡ 0 = omega arith in a ∙ (ap (λ k. ahead xs (entries_read inputs (concat bs) (i + 1) k)) e ∙ ap Ok (append-nil xs))
+-- no block left
+pub entries_end : (all : Result (List Entry) Refusal) (inputs : ℕ) (bs rest : List (List ℕ)) (b : ℕ) (xs : List Entry) → rest ≡ drop b bs → length rest ≡ 0 → all ≡ ahead xs (outputs_from inputs bs b) → all ≡ Ok xs
+unfolding entries_read
+entries_end all inputs bs rest b xs q h a =
+    let e : length bs - b ≡ 0 = sym (length-drop b bs) ∙ (sym (ap length q) ∙ h) in
+    a ∙ (ap (λ k. ahead xs (entries_read inputs (concat bs) b k)) e ∙ ap Ok (append-nil xs))

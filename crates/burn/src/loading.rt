@@ -27,8 +27,8 @@ fn read_entries(blocks: &Blocks, inputs: Inputs) -> Result<ArrayVec<Entry, 8>, R
     ensures { MatchResult result (λ t. entries_read inputs (concat blocks.now.all.now) 1 (length blocks.now.all.now - 1) ≡ Ok t.items) (λ e. entries_read inputs (concat blocks.now.all.now) 1 (length blocks.now.all.now - 1) ≡ Err e) }
 {
     let mut entries = ArrayVec::new();
-    for (index, block) in blocks.all[1..].iter().enumerate() {
-        entries.push(read_entry(block, index as u32 + 1, inputs)?);
+    for (number, block) in (1u32..).zip(&blocks.all[1..]) {
+        entries.push(read_entry(block, number, inputs)?);
     }
     Ok(entries)
 }
