@@ -1,15 +1,16 @@
 -- The checks of a table, one cube on.
-use Rattle.std.proofs.Common.{◌≡◌, ℕ, ◌+◌, ◌<◌, ◌≤◌, not, List, [], ◌∷◌, length, get_or, take, drop, Some, None, Ok, Err, Option, Result, sym, refl, ap, ◌∙◌, ap₂, arith}
-use Rattle.std.specs.List.{position, position_from}
-use Rattle.std.specs.Option.{MatchOption}
+use Rattle.std.proofs.Common.{◌≡◌, ℕ, zero, suc, ◌+◌, ◌<◌, ◌≤◌, not, List, [], ◌∷◌, length, get_or, take, drop, Some, None, Ok, Err, Option, Result, sym, refl, ap, ◌∙◌, ap₂, arith}
+use Rattle.std.specs.List.{position, position_from, enumerate_from}
+use Rattle.std.specs.Option.{MatchOption, option_map}
 use Rattle.std.proofs.lemmas.List.{at_drop_more, at_drop_all, length-take-le, take_more}
 use Rattle.std.proofs.lemmas.Iterator.Adapters.{position_from-zero}
 use Rattle.refusal.specs.declared.table.Refusal.{Refusal}
-use Rattle.refusal.specs.declared.table.Refusal.TheVariants.{BadCube}
+use Rattle.refusal.specs.declared.table.Refusal.TheVariants.{BadCube, CubesMeet}
 use Rattle.design.specs.Search.{first_place}
 use Rattle.cover.specs.declared.cube.Cube.{Cube}
 use Rattle.cover.specs.Cubes.{good, meet}
 use Rattle.cover.specs.Tables.{all_good, met, apart}
+use Rattle.cover.proofs.FirstGiven.{or, first_given}
 
 -- what stands past the end of a table
 abbrev pub no_cube : Cube
@@ -46,3 +47,32 @@ apart_step cs i found h e =
 pub apart_end : (cs : List Cube) (i : ℕ) → length cs ≤ i → apart (take i cs) (drop i cs) ≡ Ok tt
 unfolding apart
 apart_end cs i h = at_drop_all (apart (take i cs)) cs i h
+
+-- the refusal of the cube at a place, if it meets an earlier one
+abbrev pub meeting : List Cube → ℕ × Cube → Option Refusal
+meeting cs p = option_map (λ earlier. CubesMeet p.0 earlier) (first_place (λ x. meet x p.1) (take p.0 cs))
+
+-- what is answered for the refusal that was found
+abbrev pub answered : Option Refusal → Result (Unit {0}) Refusal
+answered (Some why) = Err why
+answered None = Ok tt
+
+met_given : (place : ℕ) (earlier : Option ℕ) (rest : Result (Unit {0}) Refusal) (later : Option Refusal) → rest ≡ answered later
+    → met place earlier rest ≡ answered (or (option_map (λ e. CubesMeet place e) earlier) later)
+met_given place (Some e) rest later same = refl
+met_given place None rest later same = same
+
+apart_given : (cs : List Cube) (left i : ℕ) → i + left ≡ length cs → apart (take i cs) (drop i cs) ≡ answered (first_given (meeting cs) (enumerate_from i (drop i cs)))
+apart_given cs zero i all =
+    apart_end cs i (omega arith) ∙ sym (at_drop_all (λ rest. answered (first_given (meeting cs) (enumerate_from i rest))) cs i (omega arith))
+apart_given cs (suc left) i all =
+    let found = first_place (λ x. meet x (get_or cs i no_cube)) (take i cs) in
+    apart_step cs i found (omega arith) refl
+    ∙ met_given i found _ _ (apart_given cs left (i + 1) (omega arith))
+    ∙ sym (at_drop_more (λ rest. answered (first_given (meeting cs) (enumerate_from i rest))) cs i no_cube (omega arith))
+
+-- the first refusal of a cube that meets an earlier one is the answer
+pub first_meets : (cs : List Cube) (found : Option Refusal) (answer : Result (Unit {0}) Refusal)
+    → found ≡ first_given (meeting cs) (enumerate_from 0 cs) → MatchOption found (answer ≡ Ok tt) (λ why. answer ≡ Err why) → answer ≡ apart [] cs
+first_meets cs None answer e says = says ∙ ap answered e ∙ sym (apart_given cs (length cs) 0 (omega arith))
+first_meets cs (Some why) answer e says = says ∙ ap answered e ∙ sym (apart_given cs (length cs) 0 (omega arith))

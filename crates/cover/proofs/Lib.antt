@@ -1,4 +1,5 @@
 -- The laws of tables of cubes.
+pub mod FirstGiven
 pub mod Checks
 pub mod Reading
 pub mod Apart

@@ -33,10 +33,8 @@ fn check_each(size: Size, cubes: &[Cube]) -> Result<(), Refusal>
 fn check_pairs(cubes: &[Cube]) -> Result<(), Refusal>
     ensures { result ≡ apart [] cubes.now }
 {
-    for (place, cube) in cubes.iter().enumerate() {
-        if let Some(earlier) = first_meeting(&cubes[..place], cube) {
-            return Err(Refusal::CubesMeet { place, earlier });
-        }
-    }
-    Ok(())
+    let meeting = cubes.iter().enumerate().find_map(|(place, cube)| {
+        first_meeting(&cubes[..place], cube).map(|earlier| Refusal::CubesMeet { place, earlier })
+    });
+    meeting.map_or(Ok(()), Err)
 }

@@ -1,16 +1,14 @@
-use Rattle.std.proofs.Common.{Some, None, sym, ◌∙◌}
-use Rattle.cover.proofs.Checks.{apart_step, apart_end}
+use Rattle.std.proofs.Common.{rules, tests}
+use Rattle.std.proofs.lemmas.Iterator.{YieldsList-from_slice}
+use Rattle.std.proofs.lemmas.Iterator.Consumers.{YieldsList-from_enumerate}
+use Rattle.cover.proofs.FirstGiven.{find_map_gives}
+use Rattle.cover.proofs.Checks.{meeting, first_meets}
 use Rattle.cover.proofs.cover.build.check_pairs.Goals as goal
 
-pub returns-in-Some : goal.returns-in-Some
-returns-in-Some c =
-    sym (apart_step c.args.cubes.now c.loop-place.place (Some c.in-Some.earlier) c.loop-place-test.true c.in-Some.ensures.answer)
-    ∙ c.loop-place.invariant
-
-pub loop-place-preserved : goal.loop-place-preserved
-loop-place-preserved c =
-    sym (apart_step c.args.cubes.now c.loop-place.place None c.loop-place-test.true c.in_default.ensures.answer)
-    ∙ c.loop-place.invariant
-
 pub returns : goal.returns
-returns c = sym (apart_end c.args.cubes.now c.loop-place.place c.loop-place-test.false) ∙ c.loop-place.invariant
+returns c =
+    let cubes = c.args.cubes.now in
+    first_meets cubes c.find_map-meeting.result c.map_or.result
+    (find_map_gives (meeting cubes) _ c.find_map-meeting.result c.find_map-meeting.ensures.runs
+    (YieldsList-from_enumerate (YieldsList-from_slice cubes cc) cc) (λ x b q k. search (rules, tests)))
+    (search rules)
