@@ -11,7 +11,8 @@ pub use cover::Cover;
 pub use cube::Cube;
 pub use kind::{Kind, NoKind};
 pub use theorems::{
-    approximation_tallies, cubes_meet_in_a_row, openings_have_reasons, small_cover_figures,
+    approximation_tallies, cubes_meet_in_a_row, kinds_agree, openings_have_reasons,
+    small_cover_figures,
 };
 
 #[cfg(test)]
