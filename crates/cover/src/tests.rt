@@ -82,9 +82,14 @@ fn the_first_that_meets_and_the_earliest_it_meets(rt: HostRuntime) -> Result<(),
     Ok(())
 }
 
+// Of three inputs, the rows that have input 0 are on, and row 6 is a don't-care.
+fn small_cover(heap: Global) -> Result<Cover, Fail> {
+    Ok(Cover::new(3, 1, vec![in heap; cube(1, 1, 1), cube(2, 7, 6)]?)?)
+}
+
 #[test]
-fn marks_and_tallies_of_a_small_table(rt: HostRuntime) -> Result<(), Fail> {
-    let cover = Cover::new(3, 1, vec![in rt.alloc(); cube(1, 1, 1), cube(2, 7, 6)]?)?;
+fn marks_of_a_small_table(rt: HostRuntime) -> Result<(), Fail> {
+    let cover = small_cover(rt.alloc())?;
     let marks = [
         (0, Ok(Mark::Zero)),
         (6, Ok(Mark::DontCare)),
@@ -94,6 +99,12 @@ fn marks_and_tallies_of_a_small_table(rt: HostRuntime) -> Result<(), Fail> {
     for (row, mark) in marks {
         assert_eq!(rt; cover.mark(0, row), mark);
     }
+    Ok(())
+}
+
+#[test]
+fn tallies_of_a_small_table(rt: HostRuntime) -> Result<(), Fail> {
+    let cover = small_cover(rt.alloc())?;
     let tallies = [
         (0, 2, Ok(Tally { on: 2, free: 1 })),
         (0, 3, Ok(Tally { on: 1, free: 0 })),
