@@ -9,7 +9,8 @@ mod questions;
 mod spot;
 
 // A table that keeps the rules of a diagram. It stays a list with references into it, in the customer's order:
-// nodes are shared, and refusals name their places.
+// nodes are shared, and refusals name their places. The roots are references as numbers for the same reason as a
+// node's branches: the table is the customer's format, in which any number may come.
 #[derive(Drop)]
 pub struct Diagram {
     inputs: u32,

@@ -11,6 +11,7 @@ pub enum Target {
     Node(usize),
 }
 
+// A reference of a table as what it leads to.
 impl From<u32> for Target {
     ghost from_gives = { λ reference found. found ≡ target reference };
 

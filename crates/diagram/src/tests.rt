@@ -5,6 +5,7 @@ use refusal::Refusal;
 use std::alloc::Global;
 use std::test::Fail;
 
+// A row of a diagram's table.
 fn node(level: u32, low: u32, high: u32) -> Node {
     Node { level, low, high }
 }
@@ -36,12 +37,15 @@ fn three_nodes_have_their_known_counts(rt: HostRuntime) -> Result<(), Fail> {
     Ok(())
 }
 
+// Level 0 is skipped at the root, level 2 at a branch, and levels 2 and 3 above a mark.
+fn skipping(heap: Global) -> Result<Diagram, Fail> {
+    let nodes = vec![in heap; node(3, 2, 1), node(1, 1, 3)]?;
+    Ok(Diagram::new(4, 1, nodes, vec![in heap; 4]?)?)
+}
+
 #[test]
 fn a_skipped_level_doubles_the_rows(rt: HostRuntime) -> Result<(), Fail> {
-    let heap = rt.alloc();
-    // level 0 is skipped at the root, level 2 at a branch, levels 2 and 3 above a mark
-    let nodes = vec![in heap; node(3, 2, 1), node(1, 1, 3)]?;
-    let d = Diagram::new(4, 1, nodes, vec![in heap; 4]?)?;
+    let d = skipping(rt.alloc())?;
     let tallies = [
         ((0, 2), Ok(Tally { on: 4, free: 2 })),
         ((0, 4), Ok(Tally { on: 1, free: 0 })),
@@ -51,6 +55,12 @@ fn a_skipped_level_doubles_the_rows(rt: HostRuntime) -> Result<(), Fail> {
     for ((output, weight), wanted) in tallies {
         assert_eq!(rt; d.tally(output, weight), wanted);
     }
+    Ok(())
+}
+
+#[test]
+fn a_row_is_read_past_a_skipped_level(rt: HostRuntime) -> Result<(), Fail> {
+    let d = skipping(rt.alloc())?;
     let marks = [
         (0, Ok(Mark::One)),
         (7, Ok(Mark::DontCare)),
@@ -84,6 +94,7 @@ fn the_first_broken_rule_is_told(rt: HostRuntime) -> Result<(), Fail> {
     Ok(())
 }
 
+// So many nodes that test input 0, of marks alone.
 fn crowd(heap: Global, count: usize) -> Result<Vec<Node>, Fail> {
     Ok(vec![in heap; node(0, 0, 1); count]?)
 }
