@@ -11,7 +11,8 @@ use refusal::Refusal;
 use symmetric::ValueVector;
 
 // Draws a symmetric function as its reduced ordered diagram, into the front of a buffer, and answers how
-// many nodes there are and the root; a buffer that is too short stays as it is.
+// many nodes there are and the root; a buffer that is too short stays as it is. The board lends the buffer, so
+// the count is answered beside it.
 #[tactic(auto, using(crate::proofs::Diagrams::reduced))]
 pub fn draw(vector: &ValueVector, buffer: &mut [Node]) -> Result<Drawn, Refusal>
     ensures answer { result ≡ draw_answer (drawing_of (held vector.now)) (length buffer.old) }

@@ -46,7 +46,8 @@ impl Page {
         }
     }
 
-    // Draws the piece k of a level.
+    // Draws the piece k of a level. The drawing writes a table, in which references are numbers (0 and 1 marks, 3 + p the
+    // node at place p); a `Target` is for reading one.
     fn draw_piece(&mut self, vector: &ValueVector, level: u32, k: usize)
         requires level { level < vector.now.inputs }
         requires piece { k ≤ level }

@@ -5,6 +5,7 @@ use refusal::Refusal;
 use std::test::Fail;
 use symmetric::ValueVector;
 
+// A row of a drawn table.
 fn node(level: u32, low: u32, high: u32) -> Node {
     Node { level, low, high }
 }
