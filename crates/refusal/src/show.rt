@@ -90,6 +90,7 @@ impl From<Cause> for u32 {
     }
 }
 
+// Want of memory, where an allocation fails.
 impl From<AllocError> for Refusal {
     ghost from_gives = { λ _ r. r ≡ NoMemory };
 
@@ -98,6 +99,7 @@ impl From<AllocError> for Refusal {
     }
 }
 
+// The same, where the failed call hands a value back.
 impl<T: Drop> From<AllocFailed<T>> for Refusal {
     ghost from_gives = { λ _ r. r ≡ NoMemory };
 
