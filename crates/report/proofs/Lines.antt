@@ -1,27 +1,19 @@
 -- The digits of a vector and the lines of the outputs, one by one.
-use Rattle.std.proofs.Common.{◌≡◌, ℕ, zero, map, refl, suc, ◌+◌, ◌<◌, ◌≤◌, List, ◌∷◌, ◌++◌, length, get_or, drop, sym, ap, ◌∙◌, append_assoc, arith, lit<}
-use Rattle.std.specs.List.{range_with_len}
-use Rattle.std.specs.Str.{IsAscii}
-use Rattle.std.proofs.Math.Utf8.{encodes}
-use Rattle.std.proofs.lemmas.Str.{encodes-IsAscii}
+use Rattle.std.specs.Prelude.{decimal}
+use Rattle.std.proofs.Common.{◌≡◌, ℕ, zero, suc, ◌+◌, ◌/◌, ◌%◌, ◌^◌, ◌<◌, ◌≤◌, List, [], ◌∷◌, ◌++◌, length, get_or, drop, sym, ap, ◌∙◌, append_assoc, arith}
+use Rattle.std.proofs.lemmas.Fmt.{decimal_digit}
 use Rattle.std.proofs.lemmas.List.{append-nil, at_drop_more, at_drop_all}
 use Rattle.burn.specs.declared.entry.Entry.{Entry}
 use Rattle.report.specs.Listing.{digit, digits, entry_line, entry_lines}
 
--- a digit is an ASCII character
-digits_ascii : (vector a n : ℕ) → IsAscii (map (digit vector) (range_with_len a n))
-digits_ascii vector a zero i = lit< tt
-digits_ascii vector a (suc n) zero = omega arith
-digits_ascii vector a (suc n) (suc i) = digits_ascii vector (a + 1) n i
-
--- the digits one by one, as characters
-pub digits_mapped : (vector a n : ℕ) → map (digit vector) (range_with_len a n) ≡ digits vector a n
+-- one digit more
+digits_onward : (vector a n w : ℕ) → a + n ≡ w → digits vector a n ++ decimal (vector / 2 ^ w % 2) ≡ digits vector a (suc n)
 unfolding digits
-digits_mapped vector a zero = refl
-digits_mapped vector a (suc n) = ap (λ xs. digit vector a ∷ xs) (digits_mapped vector (a + 1) n)
+digits_onward vector a zero w e = decimal_digit _ (omega arith) ∙ ap (λ k. digit vector k ∷ []) (omega (arith, e))
+digits_onward vector a (suc n) w e = ap (λ xs. digit vector a ∷ xs) (digits_onward vector (a + 1) n w (omega (arith, e)))
 
-pub digits_text : (vector n : ℕ) → encodes (map (digit vector) (range_with_len 0 n)) ≡ digits vector 0 n
-digits_text vector n = encodes-IsAscii (map (digit vector) (range_with_len 0 n)) (digits_ascii vector 0 n) ∙ digits_mapped vector 0 n
+pub digits_more : (vector n : ℕ) → digits vector 0 n ++ decimal (vector / 2 ^ n % 2) ≡ digits vector 0 (n + 1)
+digits_more vector n = digits_onward vector 0 n n (omega arith) ∙ ap (λ k. digits vector 0 k) (omega arith)
 
 -- one line more, and none left
 pub lines_more : (text all : List ℕ) (inputs i : ℕ) (es : List Entry) (d : Entry) → i < length es → text ++ entry_lines inputs i (drop i es) ≡ all → (text ++ entry_line inputs i (get_or es i d)) ++ entry_lines inputs (i + 1) (drop (i + 1) es) ≡ all

@@ -1,70 +1,71 @@
 // The text that is printed of a burn file.
-ghost use Rattle.std.specs.Prelude.{◌≡◌, ◌+◌, ◌<◌, IfOk, string_bytes};
+ghost use Rattle.std.specs.Prelude.{◌≡◌, ◌+◌, Some, IfOk, string_bytes};
 ghost use Rattle.burn.specs.Files.{contents, loaded};
-ghost use Rattle.report.specs.Listing.{digit, digits, head_line, entry_line, entry_lines, listed, reported};
+ghost use Rattle.report.specs.Listing.{digits, listed, reported};
 
-use burn::{Entry, Sheet};
+use burn::Sheet;
 use refusal::Refusal;
 use std::alloc::{AllocError, Global};
+use std::fmt;
 
-// The value at a weight, as a digit.
-fn digit_at(vector: u32, weight: u32) -> char
-    requires { weight < 32 }
-    ensures { result ≡ digit vector weight }
-{
-    if (vector >> weight) % 2 == 1 {
-        '1'
-    } else {
-        '0'
+// The values of a vector, from weight 0 up to the inputs of a sheet.
+#[derive(Clone, Copy)]
+struct Values<'a> {
+    sheet: &'a Sheet,
+    vector: u32,
+}
+
+// A digit for each weight.
+impl fmt::Display for Values<'_> {
+    ghost output = { λ v. Some (digits v.vector 0 ((contents v.sheet.now).inputs + 1)) };
+
+    #[tactic(auto, unfolding(crate::specs::Listing::digits))]
+    fn fmt<W: fmt::Write>(&self, f: &mut fmt::Formatter<W>) -> fmt::Result {
+        for weight in 0..self.sheet.inputs() + 1 {
+            let digit = (self.vector >> weight) % 2;
+            write!(f, "{digit}")?;
+        }
+        Ok(())
     }
 }
 
-// The values of a vector, from weight 0 up to the inputs.
-fn values_text(heap: Global, sheet: &Sheet, vector: u32) -> Result<String, AllocError>
-    ensures { IfOk result (λ t. string_bytes t ≡ digits vector 0 ((contents sheet.now).inputs + 1)) }
-{
-    (0..sheet.inputs() + 1)
-        .map(|weight| digit_at(vector, weight))
-        .collect(heap)
+// A sheet that is to be listed.
+#[derive(Clone, Copy)]
+struct Listing<'a> {
+    sheet: &'a Sheet,
 }
 
-// The line of one output.
-fn entry_text(
-    heap: Global,
-    sheet: &Sheet,
-    output: usize,
-    entry: &Entry,
-) -> Result<String, AllocError>
-    ensures { IfOk result (λ t. string_bytes t ≡ entry_line (contents sheet.now).inputs output entry.now) }
-{
-    let values = values_text(heap, sheet, entry.vector)?;
-    let price = entry.price;
-    let taken = u32::from(entry.taken);
-    let wrong = entry.wrong;
-    format!(in heap; "{output} price {price} taken {taken} vector {values} wrong {wrong}\n")
-}
+// The first line, and a line for each output.
+impl fmt::Display for Listing<'_> {
+    ghost output = { λ l. Some (listed (contents l.sheet.now)) };
 
-// The first line.
-fn head_text(heap: Global, sheet: &Sheet) -> Result<String, AllocError>
-    ensures { IfOk result (λ t. string_bytes t ≡ head_line (contents sheet.now)) }
-{
-    let inputs = sheet.inputs();
-    let outputs = sheet.entries().len();
-    let limit = sheet.limit();
-    let spent = sheet.spent();
-    format!(in heap; "n {inputs} m {outputs} limit {limit} spent {spent}\n")
+    fn fmt<W: fmt::Write>(&self, f: &mut fmt::Formatter<W>) -> fmt::Result {
+        let sheet = self.sheet;
+        let inputs = sheet.inputs();
+        let outputs = sheet.entries().len();
+        let limit = sheet.limit();
+        let spent = sheet.spent();
+        writeln!(f, "n {inputs} m {outputs} limit {limit} spent {spent}")?;
+        for (output, entry) in sheet.entries().iter().enumerate() {
+            let price = entry.price;
+            let taken = u32::from(entry.taken);
+            let vector = entry.vector;
+            let values = Values { sheet, vector };
+            let wrong = entry.wrong;
+            writeln!(
+                f,
+                "{output} price {price} taken {taken} vector {values} wrong {wrong}"
+            )?;
+        }
+        Ok(())
+    }
 }
 
 // The listing of a sheet.
 pub fn listing_of(heap: Global, sheet: &Sheet) -> Result<String, AllocError>
     ensures { IfOk result (λ t. string_bytes t ≡ listed (contents sheet.now)) }
 {
-    let mut text = head_text(heap, sheet)?;
-    for (output, entry) in sheet.entries().iter().enumerate() {
-        let line = entry_text(heap, sheet, output, entry)?;
-        text.push_str(line.as_str())?;
-    }
-    Ok(text)
+    Listing { sheet }.to_string(heap)
 }
 
 // What is printed of a file: its listing, or the one line that says why it is refused.
