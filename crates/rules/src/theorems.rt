@@ -1,6 +1,7 @@
-// The promise of the rules: the function carries it on its contract, and does nothing.
+// The promise of the rules: the function stands for the statement on its contract, and does nothing.
 ghost use Rattle.rules.specs.Promise.{PromiseHolds};
 
+// A service keeps its promise over every run of calls, on all terms.
 pub fn promise_holds() -> u8
     ensures { PromiseHolds }
 {
