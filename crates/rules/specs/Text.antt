@@ -2,6 +2,7 @@
 -- Assumes nothing.
 use Rattle.std.specs.Prelude.{ℕ, List, ◌++◌, codes, decimal, vec_len}
 use Rattle.design.specs.Marks.{mark_word}
+use Rattle.drawing.specs.Text.{text}
 use Rattle.commands.specs.Text.{refused_text, answer_text}
 use Rattle.rules.specs.declared.call.Call.{Call}
 use Rattle.rules.specs.declared.call.Call.TheVariants.{Take, Back, Ask, Show, Read, Draw}
@@ -27,11 +28,11 @@ asked_text a = codes "limit " ++ (decimal a.limit ++ (codes ", spent " ++ (decim
 abbrev pub shown_text : Shown → List ℕ
 shown_text s = codes "vector " ++ (decimal s.vector ++ (codes ", " ++ (decimal s.wrong ++ codes " windows judged wrongly")))
 
--- a reply: the text of what it holds; of a drawing its size and root
+-- a reply: the text of what it holds; of a drawing its size and root, as drawing tells them
 abbrev pub reply_text : Reply → List ℕ
 reply_text (reply.Answered a) = answer_text a
 reply_text (reply.Asked a) = asked_text a
 reply_text (reply.Shown s) = shown_text s
 reply_text (reply.Marked mark) = mark_word mark
-reply_text (reply.Drawn root nodes) = decimal (vec_len nodes) ++ (codes " nodes, root " ++ decimal root)
+reply_text (reply.Drawn root nodes) = text (record { count = vec_len nodes; root = root })
 reply_text (reply.Refused why) = refused_text why

@@ -3,6 +3,7 @@ ghost use Rattle.std.specs.Prelude.{Some};
 ghost use Rattle.rules.specs.Text.{call_text, asked_text, shown_text, reply_text};
 
 use crate::call::{Asked, Call, Reply, Shown};
+use drawing::Drawn;
 use std::fmt;
 
 // A call with what it names.
@@ -64,7 +65,8 @@ impl fmt::Display for Reply {
             Reply::Marked(mark) => write!(f, "{mark}"),
             Reply::Drawn { root, nodes } => {
                 let count = nodes.len();
-                write!(f, "{count} nodes, root {root}")
+                let drawn = Drawn { count, root: *root };
+                write!(f, "{drawn}")
             }
             Reply::Refused(refusal) => write!(f, "refused {refusal}"),
         }
