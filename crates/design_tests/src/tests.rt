@@ -1,5 +1,5 @@
 // Pairs of covers and diagrams, the search among cubes, and nearest functions of small and of large tables.
-use cover::{Cover, Cube};
+use cover::{Cover, Cube, Kind};
 use design::{Design, Joined, Mark, Tally, first_meeting};
 use diagram::{Diagram, Node};
 use refusal::Refusal;
@@ -8,10 +8,10 @@ use std::test::Fail;
 use symmetric::nearest;
 
 // A cube at output 0.
-fn cube(kind: u32, fixed: u16, value: u16) -> Cube {
+fn cube(kind: Kind, fixed: u16, value: u16) -> Cube {
     Cube {
         output: 0,
-        kind,
+        kind: u32::from(kind),
         fixed,
         value,
     }
@@ -24,7 +24,7 @@ fn node(level: u32, low: u32, high: u32) -> Node {
 
 // Three inputs and two outputs: row 0 of output 0 is one, all else is zero.
 fn corner(heap: Global) -> Result<Cover, Fail> {
-    Ok(Cover::new(3, 2, vec![in heap; cube(1, 7, 0)]?)?)
+    Ok(Cover::new(3, 2, vec![in heap; cube(Kind::On, 7, 0)]?)?)
 }
 
 // Three inputs and one output: row 0 is a don't-care, all else is zero.
@@ -115,10 +115,14 @@ fn inputs_are_compared_before_outputs_are_counted(rt: HostRuntime) -> Result<(),
 
 #[test]
 fn the_earliest_of_two_is_found(rt: HostRuntime) {
-    let cubes = [cube(1, 3, 0), cube(2, 3, 1), cube(1, 1, 1)];
+    let cubes = [
+        cube(Kind::On, 3, 0),
+        cube(Kind::DontCare, 3, 1),
+        cube(Kind::On, 1, 1),
+    ];
     let found = [
-        first_meeting(&cubes, &cube(1, 1, 1)),
-        first_meeting(&cubes, &cube(1, 3, 2)),
+        first_meeting(&cubes, &cube(Kind::On, 1, 1)),
+        first_meeting(&cubes, &cube(Kind::On, 3, 2)),
     ];
     assert_eq!(rt; found, [Some(1), None]);
 }
@@ -126,11 +130,20 @@ fn the_earliest_of_two_is_found(rt: HostRuntime) {
 #[test]
 fn an_input_is_nearest_to_more_than_half(rt: HostRuntime) -> Result<(), Fail> {
     let heap = rt.alloc();
-    assert_eq!(rt; told_cover(1, vec![in heap; cube(1, 1, 1)]?)?, (2, 0));
-    assert_eq!(rt; told_cover(2, vec![in heap; cube(1, 1, 1)]?)?, (4, 1));
-    assert_eq!(rt; told_cover(3, vec![in heap; cube(1, 1, 1)]?)?, (12, 2));
     assert_eq!(rt;
-        told_cover(16, vec![in heap; cube(1, 1, 1)]?)?,
+        told_cover(1, vec![in heap; cube(Kind::On, 1, 1)]?)?,
+        (2, 0)
+    );
+    assert_eq!(rt;
+        told_cover(2, vec![in heap; cube(Kind::On, 1, 1)]?)?,
+        (4, 1)
+    );
+    assert_eq!(rt;
+        told_cover(3, vec![in heap; cube(Kind::On, 1, 1)]?)?,
+        (12, 2)
+    );
+    assert_eq!(rt;
+        told_cover(16, vec![in heap; cube(Kind::On, 1, 1)]?)?,
         (130560, 26333)
     );
     let drawn = Diagram::new(16, 1, vec![in heap; node(0, 0, 1)]?, vec![in heap; 3]?)?;
@@ -142,7 +155,10 @@ fn an_input_is_nearest_to_more_than_half(rt: HostRuntime) -> Result<(), Fail> {
 fn zeros_and_dont_cares_are_nearest_to_zero(rt: HostRuntime) -> Result<(), Fail> {
     let heap = rt.alloc();
     assert_eq!(rt; told_cover(16, vec![in heap]?)?, (0, 0));
-    assert_eq!(rt; told_cover(16, vec![in heap; cube(2, 0, 0)]?)?, (0, 0));
+    assert_eq!(rt;
+        told_cover(16, vec![in heap; cube(Kind::DontCare, 0, 0)]?)?,
+        (0, 0)
+    );
     Ok(())
 }
 
