@@ -27,7 +27,7 @@ impl Maker {
     fn pieces(&mut self, output: u32) -> Result<Vec<Cube>, AllocError> {
         let all = Cube {
             output,
-            kind: 1,
+            kind: u32::from(Kind::On),
             fixed: 0,
             value: 0,
         };

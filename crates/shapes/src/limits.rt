@@ -1,5 +1,5 @@
 // Tables at and beyond the limits of their makes.
-use cover::{Cover, Cube};
+use cover::{Cover, Cube, Kind};
 use design::Joined;
 use diagram::{Diagram, Node};
 use refusal::Refusal;
@@ -30,7 +30,7 @@ fn crowded_cover(heap: Global, count: u16) -> Result<Cover, Refusal> {
     let cubes = (0..count)
         .map(|value| Cube {
             output: 0,
-            kind: 1,
+            kind: u32::from(Kind::On),
             fixed: 8191,
             value,
         })

@@ -12,6 +12,7 @@ mod place;
 mod shapes;
 mod sheets;
 
+// All comparisons, then the limits, the small file and the summary.
 fn main(rt: HostRuntime) -> anyhow::Result<()> {
     let total = shapes::compare_shapes(&rt)?;
     limits::try_all(&rt)?;

@@ -8,7 +8,8 @@ use diagram::{Diagram, Node, Target};
 use refusal::Refusal;
 use std::alloc::AllocError;
 
-// Whether a node of this level may branch to the reference: to a mark, or to a node of a greater level.
+// Whether a node of this level may branch to the reference: to a mark, or to a node of a greater level. The test of a
+// diagram's table is not open to others; here references are chosen before there is a table.
 fn is_after(nodes: &[Node], level: u32, reference: u32) -> bool {
     match Target::from(reference) {
         Target::Mark(_) => true,

@@ -59,31 +59,37 @@ fn each<D: Design + Drop, F: FnMut(&mut Maker, u32) -> Result<Shape<D>, Refusal>
     Ok(total)
 }
 
-// Twenty covers of each kind.
-fn covers(rt: &HostRuntime, maker: &mut Maker) -> anyhow::Result<Compared> {
-    println!(rt; "covers split at random:")?;
-    let mut total = each(rt, maker, 20, |maker, place| {
+// Twenty designs of one kind under their title, each in the frame that fits its place.
+fn twenty<D: Design + Drop, F: Fn(&mut Maker) -> Result<Shape<D>, Refusal>>(
+    rt: &HostRuntime,
+    maker: &mut Maker,
+    title: &str,
+    make: F,
+) -> anyhow::Result<Compared>
+    requires { F.IsAlwaysCallable make }
+{
+    println!(rt; "{title}:")?;
+    each(rt, maker, 20, |maker, place| {
         maker.fit(place);
-        maker.cover(Maker::split)
-    })?;
-    println!(rt; "covers of cubes kept at random:")?;
-    total += each(rt, maker, 20, |maker, place| {
-        maker.fit(place);
-        maker.cover(Maker::kept)
-    })?;
-    Ok(total)
+        make(maker)
+    })
 }
 
-// Twenty diagrams of each kind.
-fn diagrams(rt: &HostRuntime, maker: &mut Maker) -> anyhow::Result<Compared> {
-    println!(rt; "diagrams with as many nodes at each level:")?;
-    let mut total = each(rt, maker, 20, |maker, place| {
-        maker.fit(place);
-        maker.diagram(Maker::even_level)
+// Covers and diagrams, of two kinds each.
+fn tables(rt: &HostRuntime, maker: &mut Maker) -> anyhow::Result<Compared> {
+    let mut total = twenty(rt, maker, "covers split at random", |maker| {
+        maker.cover(Maker::split)
     })?;
-    println!(rt; "diagrams with nodes at any level:")?;
-    total += each(rt, maker, 20, |maker, place| {
-        maker.fit(place);
+    total += twenty(rt, maker, "covers of cubes kept at random", |maker| {
+        maker.cover(Maker::kept)
+    })?;
+    total += twenty(
+        rt,
+        maker,
+        "diagrams with as many nodes at each level",
+        |maker| maker.diagram(Maker::even_level),
+    )?;
+    total += twenty(rt, maker, "diagrams with nodes at any level", |maker| {
         maker.diagram(Maker::any_level)
     })?;
     Ok(total)
@@ -120,8 +126,7 @@ fn full_tables(rt: &HostRuntime, maker: &mut Maker) -> anyhow::Result<Compared> 
 // All shapes, with one set of dice throughout.
 pub(crate) fn compare_shapes(rt: &HostRuntime) -> anyhow::Result<Compared> {
     let mut maker = Maker::new(rt.alloc(), 16);
-    let mut total = covers(rt, &mut maker)?;
-    total += diagrams(rt, &mut maker)?;
+    let mut total = tables(rt, &mut maker)?;
     total += pairs(rt, &mut maker)?;
     total += full_tables(rt, &mut maker)?;
     Ok(total)

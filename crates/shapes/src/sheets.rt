@@ -4,10 +4,9 @@ use samples::small_cover;
 use service::Service;
 
 // The sum that closes a block: its last four bytes, the lowest first.
-fn sum_of(block: &[u8]) -> u32 {
-    block
-        .last_chunk()
-        .map_or(0, |bytes| u32::from_le_bytes(*bytes))
+fn sum_of(block: &[u8; 512]) -> u32 {
+    let [.., a, b, c, d] = *block;
+    u32::from_le_bytes([a, b, c, d])
 }
 
 // Cover A at price 3 and limit 3, its only output taken.
@@ -18,11 +17,11 @@ pub(crate) fn list_small(rt: &HostRuntime) -> anyhow::Result<()> {
     println!(rt; "number 1: {}", service.take(1, 0))?;
     let mut file = [0u8; 1024];
     let length = service.sheet(heap)?.write(&mut file)?;
-    let (first, second) = file.split_at(512);
+    let (blocks, _) = file.as_chunks::<512>();
     println!(rt;
         "burn file: {length} bytes, block sums {} and {}",
-        sum_of(first),
-        sum_of(second)
+        sum_of(&blocks[0]),
+        sum_of(&blocks[1])
     )?;
     rt.print(report_of(heap, &file)?)?;
     Ok(())
