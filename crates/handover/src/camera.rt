@@ -21,7 +21,7 @@ use std::alloc::Global;
 // Both outputs as one design.
 pub(crate) type Camera = Joined<Cover, Diagram>;
 
-// Output 0, as above.
+// Output 0, as above. Kinds stand as numbers, 1 on and 2 don't-care: a constant can call no `u32::from`.
 const FURROW: [Cube; 2] = [
     Cube {
         output: 0,

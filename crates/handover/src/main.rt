@@ -6,6 +6,7 @@ mod story;
 
 use service::Service;
 
+// The whole list through one call, then a service of its own call by call.
 fn main(rt: HostRuntime) -> anyhow::Result<()> {
     println!(rt; "a whole list of calls:")?;
     story::run_all(&rt)?;

@@ -1,5 +1,6 @@
 // One handover, call by call.
 use crate::camera::{Camera, both};
+use anyhow::Context;
 use diagram::Node;
 use drawing::Drawn;
 use refusal::Refusal;
@@ -112,8 +113,9 @@ pub(crate) fn burn(rt: &HostRuntime, service: &Service<Camera>) -> anyhow::Resul
     let mut file = [0u8; 4608];
     let length = service.sheet(rt.alloc())?.write(&mut file)?;
     println!(rt; "the burn file has {length} bytes; loaded back it lists as")?;
-    if let Some(written) = file.get(..length) {
-        rt.print(report_of(rt.alloc(), written)?)?;
-    }
+    let written = file
+        .get(..length)
+        .context("the file ends before its length")?;
+    rt.print(report_of(rt.alloc(), written)?)?;
     Ok(())
 }

@@ -10,6 +10,7 @@ pub struct Dice {
     state: u32,
 }
 
+// The model: the state alone.
 impl Model for Dice {
     ghost Value = { ℕ };
 

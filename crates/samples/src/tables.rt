@@ -10,7 +10,8 @@ use diagram::{Diagram, Node};
 use refusal::Refusal;
 use std::alloc::Global;
 
-// The cubes: the rows that have input 0, and row 6.
+// The cubes: the rows that have input 0, and row 6. Kinds stand as numbers, 1 on and 2 don't-care: a constant can call no
+// `u32::from`.
 const CUBES: [Cube; 2] = [
     Cube {
         output: 0,
