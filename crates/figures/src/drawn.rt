@@ -1,10 +1,11 @@
 // Drawings, each read back at every row.
+use anyhow::Context;
 use diagram::{Node, Target};
 use drawing::draw;
 use samples::{Outcome, value_at};
+use std::fmt;
 use std::iter::Sum;
 use std::ops::Add;
-use std::{fmt, io};
 use symmetric::ValueVector;
 
 // How much was drawn, and the rows at which the reading was compared with the vector's value.
@@ -68,13 +69,11 @@ fn read(nodes: &[Node], root: u32, row: u32) -> Target {
     target
 }
 
-// Draws one vector and reads the drawing at every row. The value 0 or 1 at a row is also the reference to its mark.
-fn read_back(inputs: u32, bits: u32) -> Drawings {
-    let Some(vector) = ValueVector::new(inputs, bits) else {
-        return Drawings::default();
-    };
+// Draws a vector and reads the drawing at every row. The value 0 or 1 at a row is also the reference to its mark. A
+// refused drawing is counted as one that differs.
+fn read_back(vector: &ValueVector) -> Drawings {
     let mut buffer = [Node::default(); 136];
-    let Ok(drawn) = draw(&vector, &mut buffer) else {
+    let Ok(drawn) = draw(vector, &mut buffer) else {
         return Drawings {
             drawn: 1,
             nodes: 0,
@@ -86,7 +85,8 @@ fn read_back(inputs: u32, bits: u32) -> Drawings {
     };
     let rows = (0u32..1 << vector.inputs())
         .map(|row| {
-            Outcome::from(read(&buffer, drawn.root, row) == Target::from(value_at(bits, row)))
+            let value = value_at(vector.bits(), row);
+            Outcome::from(read(&buffer, drawn.root, row) == Target::from(value))
         })
         .sum();
     Drawings {
@@ -96,13 +96,16 @@ fn read_back(inputs: u32, bits: u32) -> Drawings {
     }
 }
 
-// Every vector of so many inputs; read_back passes over the numbers that are none.
+// Every vector of so many inputs.
 fn every(inputs: u32) -> Drawings {
-    (0..32).map(|bits| read_back(inputs, bits)).sum()
+    (0..32)
+        .filter_map(|bits| ValueVector::new(inputs, bits))
+        .map(|vector| read_back(&vector))
+        .sum()
 }
 
 // All small vectors, and some of 16 inputs.
-pub(crate) fn draw_all(rt: &HostRuntime) -> io::Result<()> {
+pub(crate) fn draw_all(rt: &HostRuntime) -> anyhow::Result<()> {
     let small: Drawings = (1..5).map(every).sum();
     println!(rt; "all vectors of 1 to 4 inputs: {small}")?;
     let large = [
@@ -113,7 +116,8 @@ pub(crate) fn draw_all(rt: &HostRuntime) -> io::Result<()> {
         ("all", 0x1ffff),
     ];
     for (name, bits) in large {
-        println!(rt; "{name} at 16 inputs: {}", read_back(16, bits))?;
+        let vector = ValueVector::new(16, bits).context("no vector has these bits")?;
+        println!(rt; "{name} at 16 inputs: {}", read_back(&vector))?;
     }
     Ok(())
 }

@@ -44,6 +44,7 @@ fn all_edges(rt: &HostRuntime) -> anyhow::Result<Outcome> {
     Ok(outcomes.into_iter().sum())
 }
 
+// The designs' tallies first, then drawings, prices, the log and the long list.
 fn main(rt: HostRuntime) -> anyhow::Result<()> {
     let Outcome { compared, differ } = all_makes(&rt)? + all_edges(&rt)?;
     println!(rt; "{compared} tallies compared with a count over all rows, {differ} differ")?;
