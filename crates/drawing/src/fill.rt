@@ -34,7 +34,8 @@ impl Page {
         }
     }
 
-    // Draws all pieces of a level.
+    // Draws all pieces of a level. Room is asked for here and below, in each step for what it may place: a page knows how many
+    // nodes stand, and how many are still to come only its levels know.
     #[tactic(auto, unfolding(crate::specs::Pieces::with_pieces))]
     fn draw_level(&mut self, vector: &ValueVector, level: u32)
         requires level { level < vector.now.inputs }

@@ -116,8 +116,3 @@ pub(crate) fn all_of(heap: Global, inputs: u32, kind: Kind) -> Result<Cover, Ref
     };
     Cover::new(inputs, 1, Vec::from_slice(heap, &[all])?)
 }
-
-// No cube.
-pub(crate) fn none_of(heap: Global, inputs: u32) -> Result<Cover, Refusal> {
-    Cover::new(inputs, 1, Vec::new(heap))
-}
