@@ -14,7 +14,7 @@ abbrev pub ahead : List Entry → Result (List Entry) Refusal → Result (List E
 ahead xs (Ok es) = Ok (xs ++ es)
 ahead xs (Err e) = Err e
 
-ahead_push : (xs : List Entry) (e : Entry) (r : Result (List Entry) Refusal) → ahead xs (then r (λ es. Ok (e ∷ es))) ≡ ahead (xs ++ e ∷ []) r
+pub ahead_push : (xs : List Entry) (e : Entry) (r : Result (List Entry) Refusal) → ahead xs (then r (λ es. Ok (e ∷ es))) ≡ ahead (xs ++ e ∷ []) r
 ahead_push xs e (Ok es) = ap Ok (sym (append_assoc xs (e ∷ []) es))
 ahead_push xs e (Err x) = refl
 

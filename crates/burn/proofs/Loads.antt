@@ -4,7 +4,6 @@ use Rattle.std.proofs.Math.Nat.{eq-or-lt_of_le}
 use Rattle.std.proofs.lemmas.Bool.{eqb-true, leb-true, eq-eqb, le-leb, cond-true, and_parts, and_from}
 use Rattle.std.proofs.lemmas.Bool.Decides.{nat_tests}
 use Rattle.refusal.specs.declared.table.Refusal.{Refusal}
-use Rattle.refusal.specs.declared.table.Cause.TheVariants.{Blocks, Spent, Limit}
 use Rattle.refusal.specs.declared.table.Refusal.TheVariants.{FileLength, BadCause}
 use Rattle.burn.specs.Blocks.{little, block, then, sums, field, zeros}
 use Rattle.burn.specs.Rules.{within, vector_fits, wrong_fits, entry_keeps, entries_keep, costs, keeps, agreed}
@@ -74,6 +73,7 @@ pub record HeadRead (xs : List ℕ) (h : Head) : Type 0 where
   pub kind : get_or xs 0 0 ≡ 1
   pub number : get_or xs 1 0 ≡ 0
   pub some_inputs : within 1 16 (get_or xs 2 0) ≡ true
+  pub some_outputs : within 1 8 (get_or xs 3 0) ≡ true
   pub padded : (k : ℕ) → 12 ≤ k → k < 508 → get_or xs k 0 ≡ 0
   pub is : h ≡ record { inputs = get_or xs 2 0; outputs = get_or xs 3 0; limit = little xs 4; spent = little xs 8 }
 
@@ -88,6 +88,7 @@ head_read_ok xs h q =
       kind = eqb-true _ _ f0.0;
       number = eqb-true _ _ f1.0;
       some_inputs = f2.0;
+      some_outputs = f3.0;
       padded = zeros_ok 0 xs 12 496 z.1;
       is = sym (same_value z.2);
     }
@@ -141,7 +142,7 @@ blocks_ok file n q =
 pub agreed_ok : (m n limit spent : ℕ) (es : List Entry) → agreed m n limit spent es ≡ Ok tt → (m ≡ n) × (eqb spent (costs es) ≡ true) × (leb spent limit ≡ true)
 agreed_ok m n limit spent es q = go (eqb m n) (eqb spent (costs es)) (leb spent limit) refl refl refl q
   where
-    go : (x y z : Bool) → eqb m n ≡ x → eqb spent (costs es) ≡ y → leb spent limit ≡ z → cond x (cond y (cond z (Ok (tt {0})) (Err (BadCause Limit))) (Err (BadCause Spent))) (Err (BadCause Blocks)) ≡ Ok tt → (m ≡ n) × (eqb spent (costs es) ≡ true) × (leb spent limit ≡ true)
+    go : (x y z : Bool) → eqb m n ≡ x → eqb spent (costs es) ≡ y → leb spent limit ≡ z → cond x (cond y (cond z (Ok (tt {0})) (Err (BadCause 3))) (Err (BadCause 2))) (Err (BadCause 1)) ≡ Ok tt → (m ≡ n) × (eqb spent (costs es) ≡ true) × (leb spent limit ≡ true)
     go true true true a b c p = (eqb-true _ _ a, b, c)
     go true true false a b c p = cc
     go true false z a b c p = cc

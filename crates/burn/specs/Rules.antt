@@ -4,6 +4,7 @@ use Rattle.std.specs.Prelude.{ℕ, ◌+◌, ◌-◌, ◌*◌, ◌/◌, ◌^◌, 
 use Rattle.refusal.specs.declared.table.Refusal.{Refusal}
 use Rattle.refusal.specs.declared.table.Refusal.TheVariants.{BadCause}
 use Rattle.refusal.specs.declared.table.Cause.TheVariants.{Blocks, Spent, Limit}
+use Rattle.refusal.specs.Table.{cause_number}
 use Rattle.burn.specs.Blocks.{field, then}
 use Rattle.burn.specs.declared.entry.Entry.{Entry}
 
@@ -43,7 +44,7 @@ keeps inputs limit spent es = within 1 16 inputs && (within 1 8 (length es) && (
 
 -- the causes that several fields break together, the lowest one refused
 abbrev pub agreed : ℕ → ℕ → ℕ → ℕ → List Entry → Result (Unit {0}) Refusal
-agreed outputs blocks limit spent es = cond (outputs == blocks) (cond (spent == costs es) (cond (nat_le spent limit) (Ok tt) (Err (BadCause Limit))) (Err (BadCause Spent))) (Err (BadCause Blocks))
+agreed outputs blocks limit spent es = cond (outputs == blocks) (cond (spent == costs es) (cond (nat_le spent limit) (Ok tt) (Err (BadCause (cause_number Limit)))) (Err (BadCause (cause_number Spent)))) (Err (BadCause (cause_number Blocks)))
 
 -- the values of the output in block b, the lowest wrong field refused
 abbrev pub entry_checked : ℕ → ℕ → Entry → Result (Unit {0}) Refusal

@@ -66,17 +66,17 @@ impl<'a> Outputs<'a> {
     {
         if head.outputs as usize != self.entries.len() {
             return Err(Refusal::BadCause {
-                cause: Cause::Blocks,
+                cause: u32::from(Cause::Blocks),
             });
         }
         if u64::from(head.spent) != self.total() {
             return Err(Refusal::BadCause {
-                cause: Cause::Spent,
+                cause: u32::from(Cause::Spent),
             });
         }
         if head.spent > head.limit {
             return Err(Refusal::BadCause {
-                cause: Cause::Limit,
+                cause: u32::from(Cause::Limit),
             });
         }
         Ok(())

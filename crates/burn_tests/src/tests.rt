@@ -1,6 +1,6 @@
 // Each refusal of a file at its edges, and what writing leaves.
 use burn::{Entry, Sheet, load};
-use refusal::{Cause, Refusal};
+use refusal::Refusal;
 use std::alloc::{AllocError, Global};
 use std::test::Fail;
 
@@ -66,10 +66,10 @@ fn sum_of(block: &[u8]) -> u32 {
     sum
 }
 
-// Makes the sum of each block right.
-fn sum_again(file: &mut [u8]) {
+// Makes the sum right of the block in which a byte was changed; the other block's stays as it was written.
+fn sum_again(file: &mut [u8], place: usize) {
     let (blocks, _) = file.as_chunks_mut::<512>();
-    for block in blocks.iter_mut() {
+    if let Some(block) = blocks.get_mut(place / 512) {
         let sum = sum_of(&block[..508]);
         block[508..].copy_from_slice(&sum.to_le_bytes());
     }
@@ -93,7 +93,7 @@ fn each_field_is_held_to_its_rule(rt: HostRuntime) -> Result<(), Fail> {
         assert!(rt; *place < 1024);
         file[*place] = *value;
         if *summed {
-            sum_again(&mut file);
+            sum_again(&mut file, *place);
         }
         let said = said(heap, &file)?;
         assert!(rt; said.as_str() == *says, "{says}");
@@ -191,7 +191,7 @@ fn bad_field(block: u32, byte: u32) -> Option<Refusal> {
 }
 
 // A rule that the fields break together.
-fn bad_cause(cause: Cause) -> Option<Refusal> {
+fn bad_cause(cause: u32) -> Option<Refusal> {
     Some(Refusal::BadCause { cause })
 }
 
@@ -214,8 +214,8 @@ fn the_refusal_names_the_field_or_the_cause(rt: HostRuntime) -> Result<(), Fail>
         refusal(heap, 99, 6, &[good, entry(3, 12, 5)])?,
         bad_field(2, 8)
     );
-    assert_eq!(rt; refusal(heap, 3, 2, &[good])?, bad_cause(Cause::Spent));
-    assert_eq!(rt; refusal(heap, 2, 3, &[good])?, bad_cause(Cause::Limit));
+    assert_eq!(rt; refusal(heap, 3, 2, &[good])?, bad_cause(2));
+    assert_eq!(rt; refusal(heap, 2, 3, &[good])?, bad_cause(3));
     assert_eq!(rt; refusal(heap, u32::MAX, 3, &[good])?, None);
     Ok(())
 }

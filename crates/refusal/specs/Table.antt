@@ -68,7 +68,7 @@ values (NodesShort count) = count ∷ []
 values FileLength = []
 values (BlockSum block) = block ∷ []
 values (BadField block byte) = block ∷ byte ∷ []
-values (BadCause cause) = cause_number cause ∷ []
+values (BadCause cause) = cause ∷ []
 values (BufferShort len) = len ∷ []
 values NoMemory = []
 

@@ -17,7 +17,7 @@ mod tests {
         let none = Refusal::FileLength.to_string(heap)?;
         let one = Refusal::Gap { next: 257 }.to_string(heap)?;
         let two = Refusal::BadField { block: 1, byte: 3 }.to_string(heap)?;
-        let cause = Cause::Spent;
+        let cause = u32::from(Cause::Spent);
         let kind = Refusal::BadCause { cause }.to_string(heap)?;
         assert!(rt; none.as_str() == "22");
         assert!(rt; one.as_str() == "14 257");

@@ -64,8 +64,8 @@ impl fmt::Display for Refusal {
             Refusal::NumberUsed { number: value }
             | Refusal::Gap { next: value }
             | Refusal::OverLimit { excess: value }
+            | Refusal::BadCause { cause: value }
             | Refusal::BlockSum { block: value } => write!(f, "{number} {value}"),
-            Refusal::BadCause { cause } => write!(f, "{number} {}", u32::from(cause)),
             Refusal::CubesMeet { place, earlier } => write!(f, "{number} {place} {earlier}"),
             Refusal::InputsDiffer { first, second } => write!(f, "{number} {first} {second}"),
             Refusal::BadField { block, byte } => write!(f, "{number} {block} {byte}"),

@@ -51,8 +51,9 @@ pub enum Refusal {
     BlockSum { block: u32 },
     // the lowest field that breaks its rule: its block and first byte
     BadField { block: u32, byte: u32 },
-    // the first rule that the fields break together
-    BadCause { cause: Cause },
+    // the number of the first rule that the fields break together; a number and not a `Cause`, since whoever makes or reads
+    // a refusal may have any there
+    BadCause { cause: u32 },
     // the byte buffer is shorter than the file
     BufferShort { length: usize },
     // there was no memory; this one stands outside the table
