@@ -1,4 +1,4 @@
-use Rattle.std.proofs.Common.{◌≡◌, rules, tests, ◌∙◌}
+use Rattle.std.proofs.Common.{◌≡◌, arith, rules, tests, ◌∙◌}
 use Rattle.std.proofs.lemmas.Iterator.{YieldsList-from_slice}
 use Rattle.std.proofs.lemmas.Iterator.Adapters.{position_from-zero}
 use Rattle.std.proofs.lemmas.Iterator.Search.{position_from_yields_List}
@@ -16,4 +16,4 @@ returns-clause-answer g c =
     ∙ position_from-zero wanted records
     ∙ found_first wanted records
     in
-    cc
+    grind (arith, found)
