@@ -114,7 +114,7 @@ changed_there account before after (moves o told old new m f) h p held = grind a
 changed_there account before after (stays u) h p held = grind arith
 
 -- the account is kept by a fresh command
-line_keeps : (account : Account) (lines : List Line) (command : Command) → Kept account lines → length lines < log_room
+pub line_keeps : (account : Account) (lines : List Line) (command : Command) → Kept account lines → length lines < log_room
     → Kept account (with_line lines command (decided account lines command))
 line_keeps account lines command k few =
     let answer : Answer = decided account lines command in

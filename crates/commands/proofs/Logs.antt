@@ -40,7 +40,10 @@ pub repeat_answer : (account : Account) (lines : List Line) (s : Sent) → repea
     → numbered account lines s.number s.command ≡ (line_of lines s.number).answer
 repeat_answer account lines s h = grind arith
 
--- and adds no line
+pub repeat_is_not_fresh : (lines : List Line) (s : Sent) → repeats lines s ≡ true → fresh lines s.number ≡ false
+repeat_is_not_fresh lines s h = grind arith
+
+-- so it adds no line
 pub repeat_log : (account : Account) (lines : List Line) (s : Sent) → repeats lines s ≡ true → logged account lines s.number s.command ≡ lines
 repeat_log account lines s h = grind arith
 

@@ -9,11 +9,21 @@ use Rattle.commands.specs.declared.command.Line.{Line}
 use Rattle.commands.specs.Rules.{Account, Sent, with_line, decided, line_of, numbered, fresh, repeats, next, hears, lines_from, lines_after, heard_from, says, answers}
 use Rattle.commands.proofs.Logs.{fresh_answer, repeat_answer, line_again, repeats_again}
 
--- what is heard of a run with one step more
+-- what is heard of two runs, one after the other
+pub scan_append : {S X Y : Type 0} (step : S → X → S) (out : S → X → Y) (a : S) (xs ys : List X)
+    → scan step out a (xs ++ ys) ≡ scan step out a xs ++ scan step out (fold step a xs) ys
+scan_append step out a [] ys = refl
+scan_append step out a (x ∷ xs) ys = ap (λ l. out a x ∷ l) (scan_append step out (step a x) xs ys)
+
+-- and of a run with one step more
 pub scan_push : {S X Y : Type 0} (step : S → X → S) (out : S → X → Y) (a : S) (xs : List X) (x : X)
     → scan step out a (xs ++ x ∷ []) ≡ scan step out a xs ++ out (fold step a xs) x ∷ []
-scan_push step out a [] x = refl
-scan_push step out a (y ∷ xs) x = ap (λ l. out a y ∷ l) (scan_push step out (step a y) xs x)
+scan_push step out a xs x = scan_append step out a xs (x ∷ [])
+
+pub heard_joined : (account : Account) (before later : List Sent) (lines : List Line)
+    → heard_from account lines (before ++ later) ≡ heard_from account lines before ++ heard_from account (lines_from account lines before) later
+unfolding lines_from heard_from
+heard_joined account before later lines = scan_append (next account) (hears account) lines before later
 
 -- the log after one command more
 pub lines_one : (account : Account) (before : List Sent) (s : Sent) → lines_after account (before ++ s ∷ []) ≡ next account (lines_after account before) s

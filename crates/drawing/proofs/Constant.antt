@@ -12,7 +12,7 @@ use Rattle.drawing.proofs.Digits.{digits_zero, digits_one, from_alike}
 use Rattle.drawing.proofs.Levels.{Holds, Alike, Refers}
 
 -- marks of values tell them apart
-mark_same : (a b : ℕ) → a < 2 → b < 2 → mark_of a ≡ mark_of b → a ≡ b
+pub mark_same : (a b : ℕ) → a < 2 → b < 2 → mark_of a ≡ mark_of b → a ≡ b
 mark_same a b h g e = grind (arith, nat_tests)
 
 module _ (inputs bits level i : ℕ) where

@@ -24,7 +24,7 @@ pieces_add inputs bits level zero d = omega arith
 pieces_add inputs bits level (suc k) d = let i = pieces_add inputs bits level k d in let p = piece_adds inputs bits level k (with_pieces inputs bits level k d) in omega arith
 
 -- the pieces of the first so many levels
-unfoldable tri : ℕ → ℕ
+unfoldable pub tri : ℕ → ℕ
 tri zero = 0
 tri (suc m) = tri m + suc m
 
@@ -34,10 +34,13 @@ tri_ge zero = omega arith
 tri_ge (suc m) = omega arith
 
 -- there are 136 of 16 levels, and of d levels fewer no more
-tri_fits : (d n : ℕ) → n + d ≡ 16 → tri n ≤ 136
+tri_under : (d n : ℕ) → n + d ≡ 16 → tri n ≤ 136
 unfolding tri
-tri_fits zero n e = let all : n ≡ 16 = omega arith in rw all (omega arith)
-tri_fits (suc d) n e = let more = tri_fits d (suc n) (omega arith) in omega arith
+tri_under zero n e = let all : n ≡ 16 = omega arith in rw all (omega arith)
+tri_under (suc d) n e = let more = tri_under d (suc n) (omega arith) in omega arith
+
+pub tri_fits : (n : ℕ) → n ≤ 16 → tri n ≤ 136
+tri_fits n few = tri_under (16 - n) n (omega arith)
 
 levels_add : (inputs bits done : ℕ) → done ≤ inputs → length (with_levels inputs bits done).nodes + tri (inputs - done) ≤ tri inputs
 unfolding with_levels tri
@@ -53,7 +56,7 @@ pub room_left : (inputs bits level : ℕ) → inputs ≤ 16 → level ≤ inputs
 room_left inputs bits level few h =
     let e : inputs - (inputs - level) ≡ level = omega arith in
     let a = rw e at (levels_add inputs bits (inputs - level) (omega arith)) in
-    omega (arith, tri_fits (16 - inputs) inputs (omega arith), tri_ge level)
+    omega (arith, tri_fits inputs few, tri_ge level)
 
 -- of 16 inputs and fewer, at most 136
 pub few_nodes : (inputs bits : ℕ) → inputs ≤ 16 → length (drawn inputs bits).nodes ≤ 136

@@ -5,3 +5,4 @@ pub mod Handed
 pub mod Fits
 pub mod Altered
 pub mod Promise
+pub mod Refusals

@@ -13,7 +13,7 @@ use Rattle.rules.specs.declared.call.Call.TheVariants as call
 use Rattle.rules.specs.Rules.{Terms, account, logs, lines_from, lines, says}
 use Rattle.rules.specs.Standing.{sent}
 use Rattle.rules.specs.Promise.{is_repeat, is_fresh, Earlier}
-use Rattle.rules.proofs.Runs.{lines_past, said_again, sent_reply}
+use Rattle.rules.proofs.Runs.{grown_past, said_again, sent_reply}
 
 abbrev under : ℕ → Command → Sent
 under k c = record { number = k; command = c }
@@ -101,7 +101,7 @@ was_earlier t before (call.Draw o room) h = absurd (false≢true h)
 ever_after : (t : Terms) (before between : List Call) (k : ℕ) (c : Command) → fresh (lines t before) k ≡ true
     → repeats (lines t (before ++ sent k c ∷ between)) (under k c) ≡ true
 ever_after t before between k c h =
-    repeats_after (account t) (lines t before) (lines t (before ++ sent k c ∷ between)) (under k c) h (lines_past t before between k c)
+    repeats_after (account t) (lines t before) (lines t (before ++ sent k c ∷ between)) (under k c) h (grown_past t before between k c)
 
 pub is_repeated : (t : Terms) (before : List Call) (c : Call) → Earlier t before c → is_repeat (lines t before) c ≡ true
 is_repeated t before (call.Take k o) e = ap (λ l. is_repeat (lines t l) (call.Take k o)) e.parts ∙ ever_after t e.earlier e.between k (Take o) e.was_fresh

@@ -7,9 +7,10 @@ use Rattle.commands.specs.declared.command.Command.{Command}
 use Rattle.commands.specs.declared.command.Command.TheVariants.{Take, Back}
 use Rattle.commands.specs.declared.command.Line.{Line}
 use Rattle.commands.specs.Rules.{Sent, numbered, logged, fresh, next}
+use Rattle.commands.specs.Rules as command
 use Rattle.commands.specs.Promise.{Kept}
 use Rattle.commands.proofs.Logs.{no_line_more, repeat_log}
-use Rattle.commands.proofs.Runs.{scan_push, Grown, not_grown, next_grows, run_past, answered_again}
+use Rattle.commands.proofs.Runs.{scan_append, scan_push, Grown, not_grown, next_grows, run_past, answered_again}
 use Rattle.commands.proofs.Changed.{logged_keeps}
 use Rattle.commands.proofs.Keeping.{none_kept}
 use Rattle.rules.specs.declared.call.Call.{Call}
@@ -26,6 +27,32 @@ lines_one t before c = fold_push (logs t) [] before c
 pub replies_one : (t : Terms) (before : List Call) (c : Call) → replies t (before ++ c ∷ []) ≡ replies t before ++ says t before c ∷ []
 unfolding lines_from replies_from
 replies_one t before c = scan_push (logs t) (reply t) [] before c
+
+pub replies_joined : (t : Terms) (before later : List Call) (log : List Line)
+    → replies_from t log (before ++ later) ≡ replies_from t log before ++ replies_from t (lines_from t log before) later
+unfolding lines_from replies_from
+replies_joined t before later log = scan_append (logs t) (reply t) log before later
+
+-- the commands among some calls
+pub commands_among : List Call → List Sent
+commands_among [] = []
+commands_among (call.Take k o ∷ later) = record { number = k; command = Take o } ∷ commands_among later
+commands_among (call.Back k o ∷ later) = record { number = k; command = Back o } ∷ commands_among later
+commands_among (call.Ask ∷ later) = commands_among later
+commands_among (call.Show o ∷ later) = commands_among later
+commands_among (call.Read o r ∷ later) = commands_among later
+commands_among (call.Draw o room ∷ later) = commands_among later
+
+-- they alone make the log
+pub lines_of_commands : (t : Terms) (calls : List Call) (log : List Line) → lines_from t log calls ≡ command.lines_from (account t) log (commands_among calls)
+unfolding lines_from command.lines_from commands_among
+lines_of_commands t [] log = refl
+lines_of_commands t (call.Take k o ∷ later) log = lines_of_commands t later (logged (account t) log k (Take o))
+lines_of_commands t (call.Back k o ∷ later) log = lines_of_commands t later (logged (account t) log k (Back o))
+lines_of_commands t (call.Ask ∷ later) log = lines_of_commands t later log
+lines_of_commands t (call.Show o ∷ later) log = lines_of_commands t later log
+lines_of_commands t (call.Read o r ∷ later) log = lines_of_commands t later log
+lines_of_commands t (call.Draw o room ∷ later) log = lines_of_commands t later log
 
 -- what holds of a log and of what any command makes of it holds after a call
 logs_by : (t : Terms) (P : List Line → Type 0) (log : List Line) → P log → ((s : Sent) → P (next (account t) log s)) → (c : Call) → P (logs t log c)
@@ -85,9 +112,18 @@ lines_without t before later c h =
 
 -- the log after a command and whatever follows it
 pub lines_past : (t : Terms) (before between : List Call) (k : ℕ) (c : Command)
+    → lines t (before ++ sent k c ∷ between) ≡ command.lines_from (account t) (logged (account t) (lines t before) k c) (commands_among between)
+unfolding lines_from
+lines_past t before between k c =
+    fold-append (logs t) [] before (sent k c ∷ between)
+    ∙ ap (λ l. fold (logs t) l between) (sent_logs t (lines t before) k c)
+    ∙ lines_of_commands t between (logged (account t) (lines t before) k c)
+
+-- it grew from the one after the command
+pub grown_past : (t : Terms) (before between : List Call) (k : ℕ) (c : Command)
     → Grown (logged (account t) (lines t before) k c) (lines t (before ++ sent k c ∷ between))
 unfolding lines_from
-lines_past t before between k c = rw (← sent_logs t (lines t before) k c) (run_past (logs t) (logs_grow t) [] before (sent k c) between)
+grown_past t before between k c = rw (← sent_logs t (lines t before) k c) (run_past (logs t) (logs_grow t) [] before (sent k c) between)
 
 -- a fresh command is answered the same when it is sent again
 pub said_again : (t : Terms) (before between : List Call) (k : ℕ) (c : Command) → fresh (lines t before) k ≡ true
@@ -95,4 +131,4 @@ pub said_again : (t : Terms) (before between : List Call) (k : ℕ) (c : Command
 said_again t before between k c h =
     sent_reply t (lines t (before ++ sent k c ∷ between)) k c
     ∙ ap answered
-    (answered_again (account t) (lines t before) (lines t (before ++ sent k c ∷ between)) (record { number = k; command = c }) h (lines_past t before between k c))
+    (answered_again (account t) (lines t before) (lines t (before ++ sent k c ∷ between)) (record { number = k; command = c }) h (grown_past t before between k c))

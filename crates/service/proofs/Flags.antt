@@ -15,7 +15,7 @@ use Rattle.service.specs.declared.ledger.Ledger.{Ledger}
 use Rattle.service.specs.Books.{no_account, flags}
 use Rattle.service.specs.Booked.{Booked}
 
-flags_fit : (accounts : List Account) (k : ℕ) → flags accounts k < 2 ^ k
+pub flags_fit : (accounts : List Account) (k : ℕ) → flags accounts k < 2 ^ k
 unfolding flags
 flags_fit accounts k = number_fits (λ o. (get_or accounts o no_account).taken) k
 
@@ -32,9 +32,9 @@ flags_first a accounts k =
     double true o = omega arith
     double false o = omega arith
 
-flags_none : flags [] 0 ≡ 0
+pub flags_none : (accounts : List Account) → flags accounts 0 ≡ 0
 unfolding flags sum_below
-flags_none = refl
+flags_none accounts = refl
 
 -- a set moved up by one bit, with an account's bit below it
 abbrev pub packed : ℕ → Account → ℕ
@@ -53,7 +53,7 @@ packed_more a accounts few =
 
 -- the accounts gone through from the last one on
 pub flags_packed : (accounts : List Account) → length accounts ≤ 32 → fold packed 0 (reverse accounts) ≡ flags accounts (length accounts)
-flags_packed [] few = sym flags_none
+flags_packed [] few = sym (flags_none [])
 flags_packed (a ∷ accounts) few =
     rw (reverse-append (a ∷ []) accounts, fold-append, flags_packed accounts (omega arith)) (packed_more a accounts (omega arith))
 

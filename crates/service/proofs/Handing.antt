@@ -44,7 +44,7 @@ pub row_told : (size : Size) (o r : ℕ) → ◌≡◌ {A = Result (Unit {0}) Re
 row_told size o r e = grind (arith, nat_tests)
 
 -- the mark of a taken output
-taken_read : (t : Terms) (lines : List Line) (o r : ℕ) (a : Account) (passes : Bool) → o < t.meaning.outputs → Accounted t lines o a → a.taken ≡ true
+pub taken_read : (t : Terms) (lines : List Line) (o r : ℕ) (a : Account) (passes : Bool) → o < t.meaning.outputs → Accounted t lines o a → a.taken ≡ true
     → r < 2 ^ t.meaning.inputs → value a.vector.bits (ones r) ≡ passes → marks (marked passes) ≡ reply t lines (Read o r)
 taken_read t lines o r a passes inside h held_out row e =
     let same : a.vector.bits ≡ bits t.meaning o = ap (λ v. v.bits) h.vector in

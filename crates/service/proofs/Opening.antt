@@ -80,7 +80,7 @@ more_accounts t accounts a outside k n each last o inside =
     (λ more. let same : o ≡ k = omega arith in rw (same, get_or_at accounts a [] outside k n) last)
     (cases_lt o k)
 
-no_spending : spent [] ≡ 0
+pub no_spending : spent [] ≡ 0
 unfolding spent
 no_spending = refl
 

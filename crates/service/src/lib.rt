@@ -12,4 +12,4 @@ mod theorems;
 
 pub use running::run;
 pub use service::Service;
-pub use theorems::prices_are_judged;
+pub use theorems::{any_terms_hold, prices_are_judged};

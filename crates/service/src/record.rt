@@ -3,7 +3,7 @@ ghost use Rattle.std.specs.Prelude.{◌≡◌, ◌<◌, ◌≤◌, [], ◌∷◌
 ghost use Rattle.service.specs.Numbers.{settled};
 
 use crate::log::Log;
-use commands::{Answer, Command, Line};
+use commands::{Answer, Command, Line, same_command};
 use refusal::Refusal;
 
 impl Log {
@@ -24,7 +24,7 @@ impl Log {
             return Some(Answer::Refused(Refusal::Gap { next: count + 1 }));
         }
         match self.lines.get((number - 1) as usize) {
-            Some(line) if line.command == command => Some(line.answer),
+            Some(line) if same_command(line.command, command) => Some(line.answer),
             Some(_) => Some(Answer::Refused(Refusal::NumberUsed { number })),
             None if count == 256 => Some(Answer::Refused(Refusal::LogFull)),
             None => None,
