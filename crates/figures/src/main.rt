@@ -15,13 +15,13 @@ use samples::{Outcome, small_cover, small_diagram};
 fn all_makes(rt: &HostRuntime) -> anyhow::Result<Outcome> {
     let heap = rt.alloc();
     let outcomes = [
-        compare(rt, "cover A", &small_cover(heap)?)?,
-        compare(rt, "diagram B", &small_diagram(heap)?)?,
-        compare(rt, "A and B", &makes::pair(heap)?)?,
-        compare(rt, "A and A and B", &makes::nested(heap)?)?,
-        compare(rt, "skipped levels", &makes::skipping(heap)?)?,
-        compare(rt, "parity of 16", &makes::parity(heap)?)?,
-        compare(rt, "blocks of 16", &makes::blocks(heap)?)?,
+        compare(rt, "cover A", small_cover(heap))?,
+        compare(rt, "diagram B", small_diagram(heap))?,
+        compare(rt, "A and B", makes::pair(heap))?,
+        compare(rt, "A and A and B", makes::nested(heap))?,
+        compare(rt, "skipped levels", makes::skipping(heap))?,
+        compare(rt, "parity of 16", makes::parity(heap))?,
+        compare(rt, "blocks of 16", makes::blocks(heap))?,
     ];
     Ok(outcomes.into_iter().sum())
 }
@@ -30,16 +30,12 @@ fn all_makes(rt: &HostRuntime) -> anyhow::Result<Outcome> {
 fn all_edges(rt: &HostRuntime) -> anyhow::Result<Outcome> {
     let heap = rt.alloc();
     let outcomes = [
-        compare(rt, "ties at every weight", &makes::ties(heap)?)?,
-        compare(rt, "all on", &makes::all_of(heap, 16, Kind::On)?)?,
-        compare(rt, "all off", &Cover::new(16, 1, Vec::new(heap))?)?,
-        compare(rt, "all free", &makes::all_of(heap, 16, Kind::DontCare)?)?,
-        compare(rt, "one input on", &makes::all_of(heap, 1, Kind::On)?)?,
-        compare(
-            rt,
-            "one input free",
-            &makes::all_of(heap, 1, Kind::DontCare)?,
-        )?,
+        compare(rt, "ties at every weight", makes::ties(heap))?,
+        compare(rt, "all on", makes::all_of(heap, 16, Kind::On))?,
+        compare(rt, "all off", Cover::new(16, 1, Vec::new(heap)))?,
+        compare(rt, "all free", makes::all_of(heap, 16, Kind::DontCare))?,
+        compare(rt, "one input on", makes::all_of(heap, 1, Kind::On))?,
+        compare(rt, "one input free", makes::all_of(heap, 1, Kind::DontCare))?,
     ];
     Ok(outcomes.into_iter().sum())
 }

@@ -12,7 +12,8 @@ fn main(rt: HostRuntime) -> anyhow::Result<()> {
     story::run_all(&rt)?;
     println!(rt; "call by call:")?;
     let heap = rt.alloc();
-    let mut service = Service::open(heap, camera::both(heap)?, story::LIMIT, &story::PRICES)?;
+    let camera = story::expected(camera::both(heap))?;
+    let mut service = story::expected(Service::open(heap, camera, story::LIMIT, &story::PRICES))?;
     story::lost_acknowledgement(&rt, &mut service)?;
     story::take_and_draw(&rt, &mut service)?;
     story::burn(&rt, &service)

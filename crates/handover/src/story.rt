@@ -63,10 +63,15 @@ const CALLS: [Call; 14] = [
     Call::Ask,
 ];
 
+// A refusal where none is expected ends the program, in these words.
+pub(crate) fn expected<T>(made: Result<T, Refusal>) -> anyhow::Result<T> {
+    made.ok().context("refused")
+}
+
 // The whole list through one call.
 pub(crate) fn run_all(rt: &HostRuntime) -> anyhow::Result<()> {
     let heap = rt.alloc();
-    let replies = run(heap, both(heap)?, LIMIT, &PRICES, &CALLS)?;
+    let replies = expected(run(heap, expected(both(heap))?, LIMIT, &PRICES, &CALLS))?;
     for (call, reply) in CALLS.iter().zip(&replies) {
         println!(rt; "{call}: {reply}")?;
     }
@@ -111,7 +116,7 @@ pub(crate) fn take_and_draw(rt: &HostRuntime, service: &mut Service<Camera>) -> 
 // The sheet is written, loaded back and listed.
 pub(crate) fn burn(rt: &HostRuntime, service: &Service<Camera>) -> anyhow::Result<()> {
     let mut file = [0u8; 4608];
-    let length = service.sheet(rt.alloc())?.write(&mut file)?;
+    let length = expected(expected(service.sheet(rt.alloc()))?.write(&mut file))?;
     println!(rt; "the burn file has {length} bytes; loaded back it lists as")?;
     let written = file
         .get(..length)

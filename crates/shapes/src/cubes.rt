@@ -1,8 +1,7 @@
 // Covers made at random, of cubes no two of which meet.
-use crate::maker::Maker;
+use crate::maker::{Maker, told};
 use crate::shapes::Shape;
 use cover::{Cover, Cube, Kind};
-use refusal::Refusal;
 use std::alloc::AllocError;
 
 // Halves a cube along an input that it leaves free.
@@ -126,13 +125,13 @@ impl Maker {
     pub(crate) fn cover<F: FnOnce(&mut Maker) -> Result<Vec<Cube>, AllocError>>(
         &mut self,
         cubes: F,
-    ) -> Result<Shape<Cover>, Refusal>
+    ) -> anyhow::Result<Shape<Cover>>
         requires { F.IsAlwaysCallable cubes }
     {
         let table = cubes(self)?;
         let parts = table.len();
         Ok(Shape {
-            design: Cover::new(self.frame.inputs(), self.frame.outputs(), table)?,
+            design: told(Cover::new(self.frame.inputs(), self.frame.outputs(), table))?,
             parts,
         })
     }

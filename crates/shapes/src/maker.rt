@@ -1,7 +1,14 @@
 // What makes designs at random.
 use crate::frame::Frame;
+use anyhow::Context;
+use refusal::Refusal;
 use samples::Dice;
 use std::alloc::Global;
+
+// What is refused where it should not be ends the program, in this word.
+pub(crate) fn told<T>(made: Result<T, Refusal>) -> anyhow::Result<T> {
+    made.ok().context("refused")
+}
 
 // Memory, dice, and the frame that the next design is to fill.
 #[derive(Drop)]

@@ -1,11 +1,10 @@
 // Diagrams made at random.
 ghost use Rattle.std.specs.Prelude.{◌+◌, ◌<◌, ◌≤◌};
 
-use crate::maker::Maker;
+use crate::maker::{Maker, told};
 use crate::place::Place;
 use crate::shapes::Shape;
 use diagram::{Diagram, Node, Target};
-use refusal::Refusal;
 use std::alloc::AllocError;
 
 // Whether a node of this level may branch to the reference: to a mark, or to a node of a greater level. The test of a
@@ -106,14 +105,14 @@ impl Maker {
         &mut self,
         level_of: F,
         count: u16,
-    ) -> Result<Shape<Diagram>, Refusal>
+    ) -> anyhow::Result<Shape<Diagram>>
         requires { F.IsAlwaysCallable level_of }
     {
         let nodes = self.node_table(level_of, count)?;
         let roots = self.root_list(count)?;
         let parts = nodes.len();
         Ok(Shape {
-            design: Diagram::new(self.frame.inputs(), self.frame.outputs(), nodes, roots)?,
+            design: told(Diagram::new(self.frame.inputs(), self.frame.outputs(), nodes, roots))?,
             parts,
         })
     }
@@ -122,7 +121,7 @@ impl Maker {
     pub(crate) fn diagram<F: Fn(&mut Maker, Place) -> u32>(
         &mut self,
         level_of: F,
-    ) -> Result<Shape<Diagram>, Refusal>
+    ) -> anyhow::Result<Shape<Diagram>>
         requires { F.IsAlwaysCallable level_of }
     {
         let count = 1 + self.dice.below(60) as u16;

@@ -2,9 +2,8 @@
 use crate::compare::{Compared, compare};
 use crate::digest::Digest;
 use crate::frame::Frame;
-use crate::maker::Maker;
+use crate::maker::{Maker, told};
 use design::{Design, Joined, Size};
-use refusal::Refusal;
 use std::io;
 
 // A design, and of how many cubes and nodes it is made.
@@ -16,9 +15,9 @@ pub(crate) struct Shape<D> {
 
 impl<A: Design + Drop> Shape<A> {
     // Both as one.
-    fn beside<B: Design + Drop>(self, other: Shape<B>) -> Result<Shape<Joined<A, B>>, Refusal> {
+    fn beside<B: Design + Drop>(self, other: Shape<B>) -> anyhow::Result<Shape<Joined<A, B>>> {
         let parts = self.parts.saturating_add(other.parts);
-        let design = Joined::new(self.design, other.design)?;
+        let design = told(Joined::new(self.design, other.design))?;
         Ok(Shape { design, parts })
     }
 }
@@ -44,7 +43,7 @@ fn say<D: Design>(rt: &HostRuntime, shape: &Shape<D>) -> io::Result<Compared> {
 }
 
 // A list of designs, each made for its place and compared.
-fn each<D: Design + Drop, F: FnMut(&mut Maker, u32) -> Result<Shape<D>, Refusal>>(
+fn each<D: Design + Drop, F: FnMut(&mut Maker, u32) -> anyhow::Result<Shape<D>>>(
     rt: &HostRuntime,
     maker: &mut Maker,
     count: u32,
@@ -60,7 +59,7 @@ fn each<D: Design + Drop, F: FnMut(&mut Maker, u32) -> Result<Shape<D>, Refusal>
 }
 
 // Twenty designs of one kind under their title, each in the frame that fits its place.
-fn twenty<D: Design + Drop, F: Fn(&mut Maker) -> Result<Shape<D>, Refusal>>(
+fn twenty<D: Design + Drop, F: Fn(&mut Maker) -> anyhow::Result<Shape<D>>>(
     rt: &HostRuntime,
     maker: &mut Maker,
     title: &str,
