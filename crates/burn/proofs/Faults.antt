@@ -2,7 +2,10 @@
 use Rattle.std.proofs.Common.{◌≡◌, ℕ, ◌/◌, ◌%◌, ◌<◌, Bool, true, false, cond, ◌&&◌, eqb, leb, ◌≢◌, ◌⊎◌, ◌↔◌, List, length, Ok, Err, Result, sym, refl, ap, ◌∙◌, subst, inl, inr, ⊎_elim, arith}
 use Rattle.std.proofs.lemmas.Bool.{true≢false, cases_order, eqb-true, eqb-false}
 use Rattle.refusal.specs.declared.table.Refusal.{Refusal}
+use Rattle.refusal.specs.declared.table.Cause.{Cause}
+use Rattle.refusal.specs.declared.table.Cause.TheVariants.{Blocks, Spent, Limit}
 use Rattle.refusal.specs.declared.table.Refusal.TheVariants.{FileLength, BlockSum, BadField, BadCause}
+use Rattle.refusal.specs.Table.{cause_number}
 use Rattle.burn.specs.Blocks.{then, sums}
 use Rattle.burn.specs.Rules.{within, costs}
 use Rattle.burn.specs.Faults.{Whole, sum_told, sum_due, LowestSum, field_kept, LowestField, FaultLaws}
@@ -32,7 +35,7 @@ counted_stops file e q = go (eqb (length file % 512) 0 && within 2 9 (length fil
 
 -- causes give a sheet or are named by a cause
 abbrev Caused : Result Contents Refusal → Type 0
-Caused r = ((c : Contents) × (r ≡ Ok c)) ⊎ ((m : ℕ) × (r ≡ Err (BadCause m)))
+Caused r = ((c : Contents) × (r ≡ Ok c)) ⊎ ((m : Cause) × (r ≡ Err (BadCause (cause_number m))))
 
 caused : (h : Head) (es : List Entry) → Caused (joined h es)
 caused h es = go (eqb h.outputs (length es)) (eqb h.spent (costs es)) (leb h.spent h.limit)
@@ -40,11 +43,11 @@ caused h es = go (eqb h.outputs (length es)) (eqb h.spent (costs es)) (leb h.spe
     c : Contents
     c = record { inputs = h.inputs; limit = h.limit; spent = h.spent; entries = es }
 
-    go : (x y z : Bool) → Caused (then (cond x (cond y (cond z (Ok (tt {0})) (Err (BadCause 3))) (Err (BadCause 2))) (Err (BadCause 1))) (λ _. Ok c))
+    go : (x y z : Bool) → Caused (then (cond x (cond y (cond z (Ok (tt {0})) (Err (BadCause (cause_number Limit)))) (Err (BadCause (cause_number Spent)))) (Err (BadCause (cause_number Blocks)))) (λ _. Ok c))
     go true true true = inl (c, refl)
-    go true true false = inr (3, refl)
-    go true false z = inr (2, refl)
-    go false y z = inr (1, refl)
+    go true true false = inr (Limit, refl)
+    go true false z = inr (Spent, refl)
+    go false y z = inr (Blocks, refl)
 
 -- every file goes one of four ways
 data Way (file : List ℕ) : Type 0 where
@@ -77,7 +80,7 @@ way : (file : List ℕ) → Way file
 way file = way_counted file (counted file) refl
 
 -- an answer that names no cause is not one of these
-no_cause : {r : Result Contents Refusal} {x : Refusal} → Caused r → r ≡ Err x → ((m : ℕ) → x ≢ BadCause m) → ⊥
+no_cause : {r : Result Contents Refusal} {x : Refusal} → Caused r → r ≡ Err x → ((m : Cause) → x ≢ BadCause (cause_number m)) → ⊥
 no_cause (inl (c, q)) p d = cc
 no_cause (inr (m, q)) p d = d m (cc)
 
