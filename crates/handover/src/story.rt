@@ -1,4 +1,7 @@
 // One handover, call by call.
+ghost use Rattle.std.specs.Prelude.{◌≡◌, Ok, Some, MatchResult, IsErr, codes};
+ghost use Rattle.anyhow.specs.Error.{HasMessage};
+
 use crate::camera::{Camera, both};
 use anyhow::Context;
 use diagram::Node;
@@ -64,7 +67,9 @@ const CALLS: [Call; 14] = [
 ];
 
 // A refusal where none is expected ends the program, in these words.
-pub(crate) fn expected<T>(made: Result<T, Refusal>) -> anyhow::Result<T> {
+pub(crate) fn expected<T>(made: Result<T, Refusal>) -> anyhow::Result<T>
+    ensures { MatchResult result (λ x. made ≡ Ok x) (λ why. IsErr made × HasMessage (Some (codes "refused")) why) }
+{
     made.ok().context("refused")
 }
 

@@ -1,5 +1,5 @@
 // Covers made at random, of cubes no two of which meet.
-use crate::maker::{Maker, told};
+use crate::maker::{Maker, expected};
 use crate::shapes::Shape;
 use cover::{Cover, Cube, Kind};
 use std::alloc::AllocError;
@@ -131,7 +131,7 @@ impl Maker {
         let table = cubes(self)?;
         let parts = table.len();
         Ok(Shape {
-            design: told(Cover::new(self.frame.inputs(), self.frame.outputs(), table))?,
+            design: expected(Cover::new(self.frame.inputs(), self.frame.outputs(), table))?,
             parts,
         })
     }

@@ -1,5 +1,5 @@
 // Tables at and beyond the limits of their makes.
-use crate::maker::told;
+use crate::maker::expected;
 use cover::{Cover, Cube, Kind};
 use design::Joined;
 use diagram::{Diagram, Node};
@@ -78,8 +78,8 @@ fn try_make<D: Drop, B: Fn(u32, u32) -> Result<D, Refusal>, C: Fn(u16) -> Result
 // A cover of 16 inputs joined with a diagram of so many inputs and outputs.
 fn try_pair(rt: &HostRuntime, name: &str, inputs: u32, outputs: u32) -> anyhow::Result<()> {
     let heap = rt.alloc();
-    let first = told(bare_cover(heap, 16, 4))?;
-    let second = told(bare_diagram(heap, inputs, outputs))?;
+    let first = expected(bare_cover(heap, 16, 4))?;
+    let second = expected(bare_diagram(heap, inputs, outputs))?;
     print!(rt; "{name}: ")?;
     say(rt, Joined::new(first, second))?;
     Ok(())

@@ -1,4 +1,7 @@
 // What makes designs at random.
+ghost use Rattle.std.specs.Prelude.{◌≡◌, Ok, Some, MatchResult, IsErr, codes};
+ghost use Rattle.anyhow.specs.Error.{HasMessage};
+
 use crate::frame::Frame;
 use anyhow::Context;
 use refusal::Refusal;
@@ -6,7 +9,9 @@ use samples::Dice;
 use std::alloc::Global;
 
 // What is refused where it should not be ends the program, in this word.
-pub(crate) fn told<T>(made: Result<T, Refusal>) -> anyhow::Result<T> {
+pub(crate) fn expected<T>(made: Result<T, Refusal>) -> anyhow::Result<T>
+    ensures { MatchResult result (λ x. made ≡ Ok x) (λ why. IsErr made × HasMessage (Some (codes "refused")) why) }
+{
     made.ok().context("refused")
 }
 

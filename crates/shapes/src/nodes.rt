@@ -1,7 +1,7 @@
 // Diagrams made at random.
 ghost use Rattle.std.specs.Prelude.{◌+◌, ◌<◌, ◌≤◌};
 
-use crate::maker::{Maker, told};
+use crate::maker::{Maker, expected};
 use crate::place::Place;
 use crate::shapes::Shape;
 use diagram::{Diagram, Node, Target};
@@ -112,7 +112,12 @@ impl Maker {
         let roots = self.root_list(count)?;
         let parts = nodes.len();
         Ok(Shape {
-            design: told(Diagram::new(self.frame.inputs(), self.frame.outputs(), nodes, roots))?,
+            design: expected(Diagram::new(
+                self.frame.inputs(),
+                self.frame.outputs(),
+                nodes,
+                roots,
+            ))?,
             parts,
         })
     }

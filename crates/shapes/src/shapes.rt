@@ -2,7 +2,7 @@
 use crate::compare::{Compared, compare};
 use crate::digest::Digest;
 use crate::frame::Frame;
-use crate::maker::{Maker, told};
+use crate::maker::{Maker, expected};
 use design::{Design, Joined, Size};
 use std::io;
 
@@ -17,7 +17,7 @@ impl<A: Design + Drop> Shape<A> {
     // Both as one.
     fn beside<B: Design + Drop>(self, other: Shape<B>) -> anyhow::Result<Shape<Joined<A, B>>> {
         let parts = self.parts.saturating_add(other.parts);
-        let design = told(Joined::new(self.design, other.design))?;
+        let design = expected(Joined::new(self.design, other.design))?;
         Ok(Shape { design, parts })
     }
 }

@@ -1,5 +1,5 @@
 // The burn file of a small service, and its listing.
-use crate::maker::told;
+use crate::maker::expected;
 use report::report_of;
 use samples::small_cover;
 use service::Service;
@@ -13,11 +13,11 @@ fn sum_of(block: &[u8; 512]) -> u32 {
 // Cover A at price 3 and limit 3, its only output taken.
 pub(crate) fn list_small(rt: &HostRuntime) -> anyhow::Result<()> {
     let heap = rt.alloc();
-    let mut service = told(Service::open(heap, told(small_cover(heap))?, 3, &[3]))?;
+    let mut service = expected(Service::open(heap, expected(small_cover(heap))?, 3, &[3]))?;
     println!(rt; "cover A at price 3 and limit 3:")?;
     println!(rt; "number 1: {}", service.take(1, 0))?;
     let mut file = [0u8; 1024];
-    let length = told(told(service.sheet(heap))?.write(&mut file))?;
+    let length = expected(expected(service.sheet(heap))?.write(&mut file))?;
     let (blocks, _) = file.as_chunks::<512>();
     println!(rt;
         "burn file: {length} bytes, block sums {} and {}",
